@@ -1,0 +1,2 @@
+-- What a set of keys is.
+pub mod Word
