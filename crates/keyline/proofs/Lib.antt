@@ -1,0 +1,4 @@
+pub mod Levels
+pub mod Numbers
+pub mod Fronts
+pub mod Payload

@@ -1,0 +1,5 @@
+pub mod Limits
+pub mod Power
+pub mod Refusal
+pub mod Bytes
+pub mod Delegation

@@ -1,0 +1,37 @@
+//! Saltbobbin for an app in Rust: the proved kernel of crates/, called through C, with Rust's types.
+//!
+//! [`delegation::decode`] and [`delegation::encode`] read and write delegation payloads. Each is one call of
+//! a function that is proved to meet its contract on every input, refusals too; this library only hands bytes
+//! over and gives the answer Rust's types.
+//!
+//! ```
+//! use saltbobbin::{delegation, Power, Refusal};
+//!
+//! let mut out = [0; delegation::CITED_LENGTH];
+//! let length = delegation::encode(&[1; 32], &[2; 32], Power::Edit.byte(), &[], &mut out)?;
+//! let delegation = delegation::decode(&out[..length])?;
+//! assert_eq!((delegation.power, delegation.citation), (Power::Edit, None));
+//! assert_eq!(delegation::decode(&out), Err(Refusal::TrailingBytes));
+//! # Ok::<(), Refusal>(())
+//! ```
+//!
+//! The functions keep no state and no pointer, allocate nothing, and may be called from several threads at
+//! once. What is believed and not proved: that the declarations in [`c`] are those of the proved functions (a
+//! test compares the texts), and the few lines around each call.
+#![deny(missing_docs)]
+#![deny(unsafe_code)]
+
+#[allow(unsafe_code)]
+pub mod c;
+pub mod delegation;
+mod power;
+mod refusal;
+
+pub use delegation::Delegation;
+pub use power::Power;
+pub use refusal::Refusal;
+
+/// The examples of host/README.md, run as tests.
+#[cfg(doctest)]
+#[doc = include_str!("../../README.md")]
+pub struct Readme;
