@@ -1,0 +1,178 @@
+-- What an evaluation answers. Assumes nothing.
+use Prim.Native.Nat.{ℕ, zero, suc, pred, _+_, _≤_, _<_, min}
+use mathlib.Core.Path.{_≡_, refl, sym, ap, _∙_, subst}
+use mathlib.Core.List.{List}
+use mathlib.Core.Logic.{inl, inr, ⊎-elim}
+use mathlib.Core.Option.{Option, none, some}
+use native.Mathlib.Omega.{arith}
+use native.Mathlib.Decide.{ℕ-discrete}
+use lib.ListN.{getD}
+use Rattle.keyset.specs.Word.{bit}
+use Rattle.keyset.proofs.Laws.{bit-two}
+use Rattle.places.specs.Limits.{keyLimit, levelCount}
+use Rattle.rules.specs.Rules.{Admin, Node, StandingIs, is-revoked, is-unsupported, revoked, unsupported, Nobody, Positive, Effective, Answer, absent, level, Greatest, LiveCovered, LiveUncovered, Live, PositiveIs, EffectiveIs, ConveyedIs, Conveys, cap, plain, nothing}
+use Rattle.rules.proofs.Derivations.Monotone.{mono, stands-named}
+use Rattle.rules.proofs.Derivations.Answers.{answer-carry}
+use Rattle.rules.proofs.Evaluation.LiveSet.{effective-exists}
+use Rattle.rules.specs.Rows.{levelOf}
+use Rattle.rules.proofs.Derivations.Rows.{self-answer, no-subject}
+use Rattle.search.specs.Sets.{Word}
+use Rattle.search.specs.Levels.{height, Found}
+use Rattle.evaluation.specs.Arrays.{Below, Filled}
+use Rattle.evaluation.specs.Rows.{cell, Cells}
+use Rattle.evaluation.specs.Places.{places, Fit, Grades, Names, Subject, Over}
+use Rattle.evaluation.specs.Coverage.{NamedBelow}
+use Rattle.evaluation.specs.Caps.{level-of, Capped}
+use Rattle.evaluation.specs.Result.{Evaluated}
+use Rattle.evaluation.specs.declared.Facts.{Facts}
+use Rattle.evaluation.specs.declared.Evaluation.{Evaluation}
+use Rattle.evaluation.proofs.Laws.Flags.{no-bit}
+use Rattle.evaluation.proofs.Laws.Fill.{filled-held}
+use Rattle.evaluation.proofs.Laws.Seek.{found-as, answer-holds, answer-most}
+use Rattle.evaluation.proofs.Laws.Caps.{pred-is}
+
+-- ---- positive
+
+module _ (e : Facts) (fit : Fit e) (all : List ℕ) (F : Filled (e .delegations) (λ d v. v ≡ getD (e .power) d 0 + 1) all) where
+  value-of : (d : ℕ) → 0 < getD all d 0 → getD all d 0 ≡ getD (e .power) d 0 + 1
+  value-of d p = F .here d (filled-held F d p)
+
+  pub grades-all : Grades e all
+  grades-all = record { len = F .len; le = λ d. le d (getD all d 0) refl; held = filled-held F }
+    where
+      le : (d v : ℕ) → getD all d 0 ≡ v → v ≤ levelCount
+      le d zero z = omega arith
+      le d (suc v) z = let q = value-of d (omega arith) in omega (arith, fit .power-le d)
+
+  pub found-positive : {subjects : ℕ} {found : List ℕ} → Found (Over e all 0) subjects found → Found (Positive (places e)) subjects found
+  found-positive = found-as
+      (λ r x l s. mono {E′ = λ d. d < e .delegations} {N′ = Nobody} {c′ = λ d. getD (e .power) d 0} (filled-held F) (λ n z. absurd z)
+      (λ d p. let q = pred-is (getD all d 0) (getD (e .power) d 0) (value-of d p) in omega arith) s)
+      (λ r x l s. mono {E′ = λ d. 0 < getD all d 0} {N′ = λ n. bit 0 n ≡ 1} {c′ = λ d. pred (getD all d 0)}
+      (λ d h. let q = F .here d h in omega arith) (λ n b. absurd (no-bit n b))
+      (λ d h. let q = pred-is (getD all d 0) (getD (e .power) d 0) (F .here d h) in omega arith) s)
+
+module _ (e : Facts) (subjects : ℕ) (found rows : List ℕ) (W : Word subjects (Subject e)) (F : Found (Positive (places e)) subjects found) (C : Cells subjects found keyLimit rows) where
+  no-subject-of : (s : ℕ) → bit subjects s ≡ 0 → (d : ℕ) → d < e .delegations → getD (e .subject) d 0 ≡ s → ⊥
+  no-subject-of s z d h p = let b = W .has s (record { place = d; lt = h; is = p }) in omega arith
+
+  alone : (s x : ℕ) → s < keyLimit → x < keyLimit → bit subjects s ≡ 0 → Dec (x ≡ s) → PositiveIs (places e) s x (levelOf (cell rows s x))
+  unfolding levelOf
+  alone s x sl xl z (yes q) =
+      subst (λ (y : ℕ). PositiveIs (places e) s y (levelOf (cell rows s y))) (sym q)
+      (subst (λ (y : ℕ). PositiveIs (places e) s s (levelOf y)) (sym (C .self s sl z)) (self-answer (λ y. y)))
+  alone s x sl xl z (no n) =
+      subst (λ (y : ℕ). PositiveIs (places e) s x (levelOf y)) (sym (C .none s x sl xl z n)) (no-subject n (no-subject-of s z))
+
+  pub reaches-is : (s x : ℕ) → s < keyLimit → x < keyLimit → PositiveIs (places e) s x (levelOf (cell rows s x))
+  reaches-is s x sl xl =
+      ⊎-elim (λ z. alone s x sl xl z (ℕ-discrete x s))
+      (λ k. subst (λ (y : ℕ). PositiveIs (places e) s x (levelOf y)) (sym (C .found-at s x sl xl k)) (F .answer s x k)) (bit-two subjects s)
+
+-- a key's byte says whether it is a node
+module _ (v : Evaluation) (K : Evaluated v) (s x : ℕ) (sl : s < keyLimit) (xl : x < keyLimit) where
+  node-of : (b : ℕ) → PositiveIs (places (v .facts)) s x (levelOf b) → 0 < b → Node (places (v .facts)) s x
+  node-of zero a h = absurd (omega arith)
+  node-of (suc l) a h = record { level = l; stands = answer-holds l a }
+
+  pub node-yes : 0 < cell (v .reaches) s x → Node (places (v .facts)) s x
+  node-yes h = node-of (cell (v .reaches) s x) (K .reaches s x sl xl) h
+
+  pub node-no : cell (v .reaches) s x ≡ 0 → Node (places (v .facts)) s x → ⊥
+  node-no z n = let h = answer-most (cell (v .reaches) s x) (K .reaches s x sl xl) (n .level) (n .stands) in omega arith
+
+-- a key that stands is a key
+module _ (v : Evaluation) (K : Evaluated v) (s : ℕ) (sl : s < keyLimit) where
+  key-lt : (x l : ℕ) → Positive (places (v .facts)) s x l → x < keyLimit
+  key-lt x l p = ⊎-elim (λ e. omega arith) (λ d. omega (arith, K .fit .audience-lt (d .0), d .2)) (stands-named p)
+
+  pub nodes-are : (w top : ℕ) → top ≡ keyLimit → Word w (Below top (λ x. 0 < cell (v .reaches) s x)) → Word w (Node (places (v .facts)) s)
+  nodes-are w top e W = record {
+    has = λ x n. let xl = key-lt x (n .level) (n .stands) in W .has x (record { lt = omega arith; is = pos x xl n (cell (v .reaches) s x) refl });
+    only = λ x b. let a = W .only x b in node-yes v K s x sl (omega (arith, a .lt)) (a .is);
+  }
+    where
+      pos : (x : ℕ) → x < keyLimit → Node (places (v .facts)) s x → (b : ℕ) → cell (v .reaches) s x ≡ b → 0 < cell (v .reaches) s x
+      pos x xl n zero q = absurd (node-no v K s x sl xl q n)
+      pos x xl n (suc b) q = omega arith
+
+-- ---- effective
+
+module _ (e : Facts) (grades : List ℕ) (K : Capped e grades) where
+  pub effective-is : (roots : ℕ) (found : List ℕ) (s x v : ℕ) → Found (Over e grades 0) roots found → bit roots s ≡ 1 → v ≡ height found s x → EffectiveIs (places e) s x (levelOf v)
+  effective-is roots found s x v M k is = record {
+    κ = level-of grades;
+    caps = K .caps;
+    answer = subst (λ (y : ℕ). Answer (Effective (places e) (level-of grades) s x) (levelOf y)) (sym is)
+        (answer-carry
+        (λ l p. mono (K .lives .yes) (λ n z. absurd z) (λ d q. omega arith) p)
+        (λ l p. mono (K .lives .no) (λ n b. absurd (no-bit n b)) (λ d q. omega arith) p)
+        (M .answer s x k));
+  }
+
+  -- ---- conveyed
+
+  pub conveyed-none : (d : ℕ) → getD grades d 0 ≡ 0 → ConveyedIs (places e) d (levelOf 0)
+  unfolding levelOf
+  conveyed-none d z = record { κ = level-of grades; caps = K .caps; conveys = nothing (λ v. let p = K .lives .no d v in omega arith) }
+
+  level-pos : (g : ℕ) → 0 < g → levelOf g ≡ some (pred g)
+  unfolding levelOf
+  level-pos zero h = absurd (omega arith)
+  level-pos (suc g) h = refl
+
+  covered-live : {d : ℕ} → ¬ (LiveUncovered (places e) d) → Live (places e) d → LiveCovered (places e) d
+  covered-live n (inl u) = absurd (n u)
+  covered-live n (inr v) = v
+
+  plain-live : {d : ℕ} → ¬ (LiveCovered (places e) d) → Live (places e) d → LiveUncovered (places e) d
+  plain-live n (inl u) = u
+  plain-live n (inr v) = absurd (n v)
+
+  from-absent : {P : ℕ → Type 0} → Answer P none → (l : ℕ) → P l → ⊥
+  from-absent (absent a) = a
+
+  from-level : {P : ℕ → Type 0} {l : ℕ} → Answer P (some l) → Greatest P l
+  from-level (level g) = g
+
+  min-suc : (p l : ℕ) → min (p + 1) (suc l) ≡ suc (min p l)
+  min-suc p l = omega arith
+
+  level-min : (g p l : ℕ) → g ≡ p + 1 → levelOf (min g (suc l)) ≡ some (min p l)
+  unfolding levelOf
+  level-min g p l h = ap (λ (z : ℕ). levelOf (min z (suc l))) h ∙ ap levelOf (min-suc p l)
+
+  module _ (d : ℕ) (pos : 0 < getD grades d 0) where
+    pub conveyed-cap : ¬ (LiveUncovered (places e) d) → ConveyedIs (places e) d (levelOf (getD grades d 0))
+    conveyed-cap n = record {
+      κ = level-of grades;
+      caps = K .caps;
+      conveys = subst (λ (o : Option ℕ). Conveys (places e) (level-of grades) d o) (sym (level-pos (getD grades d 0) pos)) (cap (covered-live n (K .lives .yes d pos)));
+    }
+
+    pub conveyed-plain : ¬ (LiveCovered (places e) d) → (v : ℕ) → EffectiveIs (places e) (getD (e .subject) d 0) (getD (e .issuer) d 0) (levelOf v)
+        → ConveyedIs (places e) d (levelOf (min (getD grades d 0) v))
+    unfolding levelOf
+    conveyed-plain n zero q =
+        let u = plain-live n (K .lives .yes d pos) in
+        absurd (let a = effective-exists (q .κ) (inl u) in from-absent (q .answer) (a .level) (a .holds))
+    conveyed-plain n (suc l) q =
+        let u = plain-live n (K .lives .yes d pos) in
+        record {
+          κ = q .κ;
+          caps = q .caps;
+          conveys = subst (λ (o : Option ℕ). Conveys (places e) (q .κ) d o) (sym (level-min (getD grades d 0) (getD (e .power) d 0) l (K .lives .rest d u)))
+              (plain l u (from-level (q .answer)));
+        }
+
+-- ---- standing
+
+module _ (e : Facts) (grades : List ℕ) (K : Capped e grades) (d : ℕ) (held : d < e .delegations) (zero-grade : getD grades d 0 ≡ 0) where
+  dead : Live (places e) d → ⊥
+  dead v = let p = K .lives .no d v in omega arith
+
+  pub standing-revoked : NamedBelow (e .target) (e .revocations) d → StandingIs (places e) d revoked
+  standing-revoked n = is-revoked (getD (e .revoker) (n .place) 0) held dead (record { place = n .place; lt = n .lt; is = (n .is, refl) })
+
+  pub standing-unsupported : (NamedBelow (e .target) (e .revocations) d → ⊥) → StandingIs (places e) d unsupported
+  standing-unsupported f = is-unsupported held dead (λ k r. f (record { place = r .place; lt = r .lt; is = r .is .0 }))

@@ -1,0 +1,31 @@
+-- What an evaluation is: all that the questions asked of it need. Assumes nothing.
+use Prim.Native.Nat.{ℕ, _<_}
+use Rattle.places.specs.Limits.{keyLimit}
+use Rattle.rules.specs.Rules as rules
+use Rattle.rules.specs.Rules.{PositiveIs}
+use Rattle.rules.specs.Rows.{levelOf}
+use Rattle.search.specs.Sets.{Word}
+use Rattle.evaluation.specs.Rows.{cell}
+use Rattle.evaluation.specs.Places.{places, Fit, Subject}
+use Rattle.evaluation.specs.Coverage.{Nets}
+use Rattle.evaluation.specs.Caps.{Capped}
+use Rattle.evaluation.specs.declared.Evaluation.{Evaluation}
+use Rattle.evaluation.specs.declared.standing.Standing.{Standing}
+use Rattle.evaluation.specs.declared.standing.Standing.the-variants.{Live, Revoked, Unsupported}
+
+pub record Evaluated (v : Evaluation) : Type 0 where
+  pub fit : Fit (v .facts)
+  -- the subjects of held delegations
+  pub subjects : Word (v .subjects) (Subject (v .facts))
+  -- the positive rows
+  pub reaches : (s x : ℕ) → s < keyLimit → x < keyLimit → PositiveIs (places (v .facts)) s x (levelOf (cell (v .reaches) s x))
+  -- N(d) of the covered delegations, and 0 for the others
+  pub excluded : Nets (v .facts) (v .excluded)
+  -- the grades: exactly the live delegations have one, which is c(d) of document 01 plus one
+  pub grades : Capped (v .facts) (v .grades)
+
+-- a standing's name in the rules
+abbrev pub standingOf : Standing → rules.Standing
+standingOf Live = rules.live
+standingOf Revoked = rules.revoked
+standingOf Unsupported = rules.unsupported

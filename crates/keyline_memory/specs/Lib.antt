@@ -1,0 +1,7 @@
+pub mod Graph
+pub mod Answers
+pub mod OneClosure
+pub mod Facts
+pub mod Marks
+pub mod Sought
+pub mod State

@@ -1,0 +1,5 @@
+pub mod MarkLaws
+pub mod FilterLaws
+pub mod ChosenLaws
+pub mod WriteLaws
+pub mod AreLists

@@ -1,0 +1,60 @@
+-- The revocations are marked that name the target.
+use Prim.Native.Nat.{ℕ, _≤_, _<_}
+use mathlib.Core.Path.{_≡_, refl, sym, ap, _∙_}
+use native.Mathlib.Omega.{arith}
+use borrow.Author.Tests.{eq-eqb, ne-eqb}
+use denote.Ref.{now}
+use Rattle.keyline.specs.Limits.{revocationLimit}
+use Rattle.tables.specs.Columns.{revocationAt}
+use Rattle.tables.specs.Store.{committed}
+use Rattle.lists.specs.Lists.{lengthFirst, names, revocationsOf}
+use Rattle.lists.specs.Marks.{chosenRuns}
+use Rattle.lists.proofs.ChosenLaws.{stand, rows-chosen}
+use borrow.Author.Needs.{needs}
+use Rattle.lists.proofs.lists.revocations_of.Statement.{statement}
+use Rattle.lists.proofs.lists.revocations_of.Tie as tie
+
+returns : tie.Need-returns
+unfolding lengthFirst
+returns c = (rw (ne-eqb _ _ (c .if1 .taken)), refl)
+
+naming-requires : tie.Need-naming-requires
+naming-requires c κs = search needs
+
+slice-aggregate-choose : tie.Need-slice-aggregate-choose
+slice-aggregate-choose c = search needs
+
+choose-requires : tie.Need-choose-requires
+choose-requires c κs = search needs
+
+write-one-requires : tie.Need-write-one-requires
+write-one-requires c κs =
+    let s = c .before .before .before .before .before .before .before .before .before .before .before .before .before .before .before .before in
+    let st = s .args .t1 in
+    stand revocationLimit (st .revocations .digests) (st .revocations .count) (s .pre .revocations .digests) (omega arith) (c .before .before .before .before .before .before .before .before .before .naming .result) (c .before .before .before .before .choose .result) (c .before .before .before .before .choose .ensures)
+
+same-length : tie.Need-same-length
+same-length c = search needs
+
+returns-2 : tie.Need-returns-2
+unfolding committed lengthFirst
+returns-2 c =
+    let s = c .before .before .before .before .before .before .before .before .before .before .before .before .before .before .before .before .before .before .before in
+    let st = s .args .t1 in
+    let x = now (s .args .target) in
+    let e : chosenRuns (st .revocations .digests) (c .before .before .before .before .before .before .before .choose .result) ≡ revocationsOf (committed st) x =
+    rows-chosen revocationLimit (st .revocations .digests) (st .revocations .count) (s .pre .revocations .digests) (omega arith) (c .before .before .before .before .before .before .before .before .before .before .before .before .naming .result) (c .before .before .before .before .before .before .before .choose .result) (c .before .before .before .before .before .before .before .choose .ensures)
+    (revocationAt (st .keys .table) (st .revocations)) (λ r. r .digest) (names x) (c .before .before .before .before .before .before .before .before .before .before .before .before .naming .ensures .1) (λ i h. refl) in
+    rw (eq-eqb _ _ (c .before .before .before .before .before .before .before .before .before .before .before .before .before .before .before .before .if1 .left), ← e) (c .before .before .write-one .ensures)
+
+pub revocations-of-spec : {M : Type 1} → statement M
+revocations-of-spec =
+    tie.close
+    (tie.spec
+    returns
+    naming-requires
+    slice-aggregate-choose
+    choose-requires
+    write-one-requires
+    same-length
+    returns-2)

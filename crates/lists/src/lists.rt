@@ -1,0 +1,73 @@
+// The lists of a store: places are marked, taken in ascending order, and written. Each item is written by lending its own 32 bytes.
+use crate::write::BothListed;
+use crate::write::Listed;
+use keyline::limits::DELEGATION_LIMIT;
+use keyline::limits::DIGEST_LENGTH;
+use keyline::limits::KEY_LENGTH;
+use keyline::limits::KEY_LIMIT;
+use keyline::limits::REVOCATION_LIMIT;
+use keyline::refusal::Refusal;
+use tables::store::Store;
+ghost use mathlib.Core.Path.{_≡_};
+ghost use lib.ListN.{length};
+ghost use Rattle.tables.specs.Store.{committed, GoodStore};
+ghost use Rattle.lists.specs.Lists.{listAnswer, listBuffer, bothAnswer, bothBuffer, lengthFirst, certificateDelegations, certificateRevocations, revocationsOf, delegationsTo, subjectsOf};
+
+// All certificates: delegations ascending, then revocations ascending.
+pub fn certificates(s: Store, out: &mut [u8]) -> BothListed
+    requires { ⌜ GoodStore s ⌝ }
+    ensures { λ r. ⌜ (r ≡ bothAnswer (certificateDelegations (committed s)) (certificateRevocations (committed s)) (length (now (out .entry)))) × (now (out .exit) ≡ bothBuffer r (certificateDelegations (committed s)) (certificateRevocations (committed s)) (now (out .entry))) ⌝ }
+{
+    let on = crate::mark::all();
+    let n = s.delegations.count;
+    let c = runs::list::choose(&s.delegations.digests, DELEGATION_LIMIT, n, &on);
+    let m = s.revocations.count;
+    let d = runs::list::choose(&s.revocations.digests, REVOCATION_LIMIT, m, &on);
+    crate::write::write_both(&s.delegations.digests, &s.revocations.digests, c, d, out)
+}
+
+// The subjects of held delegations.
+pub fn subjects(s: Store, out: &mut [u8]) -> Listed
+    requires { ⌜ GoodStore s ⌝ }
+    ensures { λ r. ⌜ (r ≡ listAnswer (subjectsOf (committed s)) (length (now (out .entry)))) × (now (out .exit) ≡ listBuffer r (subjectsOf (committed s)) (now (out .entry))) ⌝ }
+{
+    let n = s.delegations.count;
+    let on = crate::mark::subjects(&s.delegations.subject, n);
+    let m = s.keys.count;
+    let c = runs::list::choose(&s.keys.table, KEY_LIMIT, m, &on);
+    crate::write::write_one(&s.keys.table, c, out)
+}
+
+// The held revocations that name the target, which need not be held.
+pub fn revocations_of(s: Store, target: &[u8], out: &mut [u8]) -> Listed
+    requires { ⌜ GoodStore s ⌝ }
+    ensures { λ r. ⌜ (r ≡ lengthFirst (now (target .entry)) (listAnswer (revocationsOf (committed s) (now (target .entry))) (length (now (out .entry))))) × (now (out .exit) ≡ listBuffer r (revocationsOf (committed s) (now (target .entry))) (now (out .entry))) ⌝ }
+{
+    if target.len() != DIGEST_LENGTH {
+        return Listed::Refused(Refusal::BadLength(target.len()));
+    }
+    let n = s.revocations.count;
+    let on = crate::mark::naming(&s.revocations.revoked, n, target);
+    let c = runs::list::choose(&s.revocations.digests, REVOCATION_LIMIT, n, &on);
+    crate::write::write_one(&s.revocations.digests, c, out)
+}
+
+// The held delegations with that subject and audience.
+pub fn delegations_to(s: Store, subject: &[u8], audience: &[u8], out: &mut [u8]) -> Listed
+    requires { ⌜ GoodStore s ⌝ }
+    ensures { λ r. ⌜ (r ≡ lengthFirst (now (subject .entry)) (lengthFirst (now (audience .entry)) (listAnswer (delegationsTo (committed s) (now (subject .entry)) (now (audience .entry))) (length (now (out .entry)))))) × (now (out .exit) ≡ listBuffer r (delegationsTo (committed s) (now (subject .entry)) (now (audience .entry))) (now (out .entry))) ⌝ }
+{
+    if subject.len() != KEY_LENGTH {
+        return Listed::Refused(Refusal::BadLength(subject.len()));
+    }
+    if audience.len() != KEY_LENGTH {
+        return Listed::Refused(Refusal::BadLength(audience.len()));
+    }
+    let m = s.keys.count;
+    let i = tables::keys::find(&s.keys.table, m, subject);
+    let j = tables::keys::find(&s.keys.table, m, audience);
+    let n = s.delegations.count;
+    let on = crate::mark::between(&s.delegations.subject, &s.delegations.audience, n, i, j);
+    let c = runs::list::choose(&s.delegations.digests, DELEGATION_LIMIT, n, &on);
+    crate::write::write_one(&s.delegations.digests, c, out)
+}

@@ -1,0 +1,25 @@
+use mathlib.Core.Path.{_≡_, sym, ap, _∙_}
+use borrow.Author.Tests.{eq-eqb, ne-eqb}
+use denote.Ref.{now}
+use Rattle.tables.proofs.ViewLaws.{revocation-found}
+use Rattle.lookups.specs.Lookup.{containsAnswer}
+use Rattle.lookups.specs.declared.lookup.Contained.the-variants as contained
+use borrow.Author.Needs.{needs}
+use Rattle.lookups.proofs.lookup.contains_revocation.Statement.{statement}
+use Rattle.lookups.proofs.lookup.contains_revocation.Tie as tie
+
+returns : tie.Need-returns
+unfolding containsAnswer
+returns c = rw (ne-eqb _ _ (c .if1 .taken))
+
+find-requires : tie.Need-find-requires
+find-requires c κs = search needs
+
+returns-2 : tie.Need-returns-2
+unfolding containsAnswer
+returns-2 c =
+    let s = c .before .before .before .before .before .before .before in
+    rw (eq-eqb _ _ (c .before .before .before .before .before .if1 .left)) (ap contained.Is (revocation-found (s .args .t1) (s .pre) (now (s .args .digest)) (c .before .find .result .0) (c .before .find .ensures)))
+
+pub contains-revocation-spec : {M : Type 1} → statement M
+contains-revocation-spec = tie.close (tie.spec returns find-requires returns-2)

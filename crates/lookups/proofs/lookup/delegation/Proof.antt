@@ -1,0 +1,79 @@
+-- What is found is the delegation with that digest.
+use Prim.Native.Nat.{ℕ, _<_}
+use mathlib.Core.Path.{_≡_, refl, sym, ap, _∙_}
+use mathlib.Core.Bool.{Bool, true, false}
+use lib.ListN.{length}
+use borrow.Author.Tests.{lt-ltb, le-ltb}
+use denote.Ref.{now}
+use Rattle.keyline.specs.Bytes.{front}
+use Rattle.runs.specs.Bytes.{Bytes, runAt}
+use Rattle.runs.specs.Members.{has}
+use Rattle.tables.specs.Committed.{Delegation, delegationDigests, delegationWith, payloadOf}
+use Rattle.tables.specs.Columns.{rowAt, delegationAt}
+use Rattle.tables.specs.Look.{rowThere}
+use Rattle.tables.specs.Store.{committed}
+use Rattle.tables.specs.declared.delegations.DelegationRow.{DelegationRow}
+use Rattle.tables.proofs.ViewLaws.{delegation-found, delegation-is, row-fits}
+use Rattle.lookups.specs.Lookup.{partsAnswer, partBuffer, lookAnswer, delegationAnswer}
+use Rattle.lookups.proofs.LookLaws.{look-bad, look-absent, look-there}
+use borrow.Author.Needs.{needs}
+use Rattle.lookups.proofs.lookup.delegation.Statement.{statement}
+use Rattle.lookups.proofs.lookup.delegation.Tie as tie
+
+-- what the parts say, of the delegation that they are the parts of
+said : {A B : Type 0} (g h : A) (P : A → B → Type 0) (r : B) → g ≡ h → P h r → P g r
+said g h P r e p = rw e p
+
+returns : tie.Need-returns
+returns c =
+    let s = c .before .before .before .before in
+    (sym (look-bad (now (s .args .digest)) _ (has (delegationDigests (committed (s .args .t1))) (now (s .args .digest))) (c .if1 .taken)), refl, refl)
+
+find-requires : tie.Need-find-requires
+find-requires c κs = search needs
+
+row-requires : tie.Need-row-requires
+row-requires c κs = search needs
+
+put-delegation-requires : tie.Need-put-delegation-requires
+put-delegation-requires c κs = let s = c .before .before .before .before .before .before .before .before .before .before .before .before .before .before .before .before .before .before .before .before .before .before .before .before .before .before .before .before .before in rw (c .before .before .before .before .before .before .before .row .ensures) (row-fits (s .args .t1) (s .pre) (c .before .before .before .before .before .before .before .before .before .before .before .before .before .before .before .before .before .before .before .before .before .find .result) (c .before .before .before .before .before .before .before .before .before .before .before .before .before .before .before .before .before .before .before .if2 .taken))
+
+same-length : tie.Need-same-length
+same-length c = search needs
+
+same-length-2 : tie.Need-same-length-2
+same-length-2 c = search needs
+
+returns-2 : tie.Need-returns-2
+returns-2 c =
+    let s = c .before .before .before .before .before .before .before .before .before .before .before .before .before .before .before .before .before .before .before .before .before .before .before .before .before .before .before .before .before .before .before .before .before .before in
+    let st = s .args .t1 in
+    let d = now (s .args .digest) in
+    let at = c .before .before .before .before .before .before .before .before .before .before .before .before .before .before .before .before .before .before .before .before .before .before .before .before .before .before .find .result in
+    let h = c .before .before .before .before .before .before .before .before .before .before .before .before .before .before .before .before .before .before .before .before .before .before .before .before .if2 .taken in
+    let w : delegationWith (committed st) d ≡ delegationAt (st .keys .table) (st .delegations) (at .0) = delegation-is st (s .pre) d (at .0) (c .before .before .before .before .before .before .before .before .before .before .before .before .before .before .before .before .before .before .before .before .before .before .before .before .before .before .find .ensures) h in
+    let f : has (delegationDigests (committed st)) d ≡ true = sym (delegation-found st (s .pre) d (at .0) (c .before .before .before .before .before .before .before .before .before .before .before .before .before .before .before .before .before .before .before .before .before .before .before .before .before .before .find .ensures)) ∙ lt-ltb (at .0) (st .delegations .count) h in
+    let p = rw (c .before .before .before .before .before .before .before .before .before .before .before .before .row .ensures) at (c .before .before .before .before .put-delegation .ensures) in
+    rw (f, w) (p .0 ∙ sym (look-there d _ (c .before .before .before .before .before .before .before .before .before .before .before .before .before .before .before .before .before .before .before .before .before .before .before .before .before .before .before .before .before .before .if1 .left)), p .1, p .2)
+
+returns-3 : tie.Need-returns-3
+returns-3 c =
+    let s = c .before .before .before .before .before .before .before .before .before .before in
+    let st = s .args .t1 in
+    let d = now (s .args .digest) in
+    let at = c .before .before .find .result in
+    let f : has (delegationDigests (committed st)) d ≡ false = sym (delegation-found st (s .pre) d (at .0) (c .before .before .find .ensures)) ∙ le-ltb (at .0) (st .delegations .count) (c .if2 .left) in
+    rw f (sym (look-absent d _ (c .before .before .before .before .before .before .if1 .left)), refl, refl)
+
+pub delegation-spec : {M : Type 1} → statement M
+delegation-spec =
+    tie.close
+    (tie.spec
+    returns
+    find-requires
+    row-requires
+    put-delegation-requires
+    same-length
+    same-length-2
+    returns-2
+    returns-3)

@@ -1,0 +1,94 @@
+// Certificates by identity.
+use crate::put::Looked;
+use keyline::limits::DIGEST_LENGTH;
+use keyline::refusal::Refusal;
+use tables::store::Store;
+ghost use mathlib.Core.Path.{_≡_};
+ghost use lib.ListN.{length};
+ghost use Rattle.tables.specs.Committed.{delegationDigests, revocationDigests, delegationWith, revocationWith, payloadOf};
+ghost use Rattle.tables.specs.Store.{committed, GoodStore};
+ghost use Rattle.lookups.specs.Lookup.{containsAnswer, delegationAnswer, revocationAnswer, partBuffer};
+
+pub enum Contained {
+    Is(bool),
+    Refused(Refusal),
+}
+
+pub fn contains_delegation(s: Store, digest: &[u8]) -> Contained
+    requires { ⌜ GoodStore s ⌝ }
+    ensures { λ r. ⌜ r ≡ containsAnswer (delegationDigests (committed s)) (now (digest .entry)) ⌝ }
+{
+    if digest.len() != DIGEST_LENGTH {
+        return Contained::Refused(Refusal::BadLength(digest.len()));
+    }
+    let n = s.delegations.count;
+    let at = tables::delegations::find(&s.delegations.digests, n, digest);
+    Contained::Is(at.0 < n)
+}
+
+pub fn contains_revocation(s: Store, digest: &[u8]) -> Contained
+    requires { ⌜ GoodStore s ⌝ }
+    ensures { λ r. ⌜ r ≡ containsAnswer (revocationDigests (committed s)) (now (digest .entry)) ⌝ }
+{
+    if digest.len() != DIGEST_LENGTH {
+        return Contained::Refused(Refusal::BadLength(digest.len()));
+    }
+    let n = s.revocations.count;
+    let at = tables::revocations::find(&s.revocations.digests, n, digest);
+    Contained::Is(at.0 < n)
+}
+
+// The issuer and the payload of the delegation with that digest, in two lent buffers.
+pub fn delegation(s: Store, digest: &[u8], issuer: &mut [u8], payload: &mut [u8]) -> Looked
+    requires { ⌜ GoodStore s ⌝ }
+    ensures { λ r. ⌜ (r ≡ delegationAnswer (committed s) (now (digest .entry)) (length (now (issuer .entry))) (length (now (payload .entry)))) × (now (issuer .exit) ≡ partBuffer r (delegationWith (committed s) (now (digest .entry)) .issuer) (now (issuer .entry))) × (now (payload .exit) ≡ partBuffer r (payloadOf (delegationWith (committed s) (now (digest .entry)))) (now (payload .entry))) ⌝ }
+{
+    if digest.len() != DIGEST_LENGTH {
+        return Looked::Refused(Refusal::BadLength(digest.len()));
+    }
+    let n = s.delegations.count;
+    let at = tables::delegations::find(&s.delegations.digests, n, digest);
+    if at.0 < n {
+        let row = tables::delegations::row(
+            &s.delegations.issuer,
+            &s.delegations.audience,
+            &s.delegations.subject,
+            &s.delegations.power,
+            &s.delegations.cited,
+            at,
+        );
+        return crate::put::put_delegation(
+            &s.keys.table,
+            &s.delegations.citation,
+            at,
+            row,
+            issuer,
+            payload,
+        );
+    }
+    Looked::Absent
+}
+
+// The issuer and the revoked digest of the revocation with that digest, in two lent buffers.
+pub fn revocation(s: Store, digest: &[u8], issuer: &mut [u8], revoked: &mut [u8]) -> Looked
+    requires { ⌜ GoodStore s ⌝ }
+    ensures { λ r. ⌜ (r ≡ revocationAnswer (committed s) (now (digest .entry)) (length (now (issuer .entry))) (length (now (revoked .entry)))) × (now (issuer .exit) ≡ partBuffer r (revocationWith (committed s) (now (digest .entry)) .issuer) (now (issuer .entry))) × (now (revoked .exit) ≡ partBuffer r (revocationWith (committed s) (now (digest .entry)) .revoked) (now (revoked .entry))) ⌝ }
+{
+    if digest.len() != DIGEST_LENGTH {
+        return Looked::Refused(Refusal::BadLength(digest.len()));
+    }
+    let n = s.revocations.count;
+    let at = tables::revocations::find(&s.revocations.digests, n, digest);
+    if at.0 < n {
+        let by = tables::revocations::key_at(&s.revocations.issuer, at);
+        return crate::put::put_revocation(
+            &s.keys.table,
+            &s.revocations.revoked,
+            at,
+            by,
+            issuer,
+            revoked,
+        );
+    }
+    Looked::Absent
+}

@@ -1,0 +1,5 @@
+pub mod Bytes
+pub mod Members
+pub mod Sorted
+pub mod Table
+pub mod Chosen

@@ -1,0 +1,7 @@
+pub mod ContentLaws
+pub mod PayloadLaws
+pub mod ViewLaws
+pub mod AnswerLaws
+pub mod KeyLaws
+pub mod NextLaws
+pub mod InsertionLaws

@@ -1,0 +1,14 @@
+use mathlib.Core.Path.{sym}
+use Rattle.tables.proofs.ViewLaws.{length-is}
+use borrow.Author.Needs.{needs}
+use Rattle.tables.proofs.store.len.Statement.{statement}
+use Rattle.tables.proofs.store.len.Tie as tie
+
+add-result : tie.Need-add-result
+add-result c = search needs
+
+returns : tie.Need-returns
+returns c = sym (length-is (c .before .args .s))
+
+pub len-spec : {M : Type 1} → statement M
+len-spec = tie.close (tie.spec add-result returns)

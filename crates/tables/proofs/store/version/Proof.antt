@@ -1,0 +1,10 @@
+use mathlib.Core.Path.{sym, _∙_}
+use Rattle.tables.proofs.ViewLaws.{length-is}
+use Rattle.tables.proofs.store.version.Statement.{statement}
+use Rattle.tables.proofs.store.version.Tie as tie
+
+returns : tie.Need-returns
+returns c = c .pre .version ∙ sym (length-is (c .args .s))
+
+pub version-spec : {M : Type 1} → statement M
+version-spec = tie.close (tie.spec returns)

@@ -1,0 +1,5 @@
+pub mod Committed
+pub mod Insertion
+pub mod Columns
+pub mod Look
+pub mod Store

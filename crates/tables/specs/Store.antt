@@ -1,0 +1,55 @@
+-- What a store's value stands for, and what holds of every store. Rests on Columns and Insertion.
+use Prim.Native.Nat.{ℕ, _+_, _*_, _≤_, _<_}
+use mathlib.Core.Path.{_≡_}
+use mathlib.Core.Bool.{false}
+use lib.ListN.{length}
+use Rattle.runs.specs.Bytes.{Bytes, runLength}
+use Rattle.runs.specs.Members.{SameRuns}
+use Rattle.runs.specs.Table.{tabulate, runs, GoodRuns}
+use Rattle.keyline.specs.Limits.{keyLimit, delegationLimit, revocationLimit}
+use Rattle.tables.specs.Committed.{Committed, keysIn}
+use Rattle.tables.specs.Columns.{delegationAt, revocationAt, Places, Ranks}
+use Rattle.tables.specs.Insertion.{isAdded, settled}
+use Rattle.tables.specs.declared.answer.Answer.{Answer}
+use Rattle.tables.specs.declared.delegations.Delegations.{Delegations}
+use Rattle.tables.specs.declared.revocations.Revocations.{Revocations}
+use Rattle.tables.specs.declared.store.Store.{Store}
+use Rattle.tables.specs.declared.store.Inserted.{Inserted}
+
+-- the certificates that a store holds
+unfoldable pub committed : Store → Committed
+committed s = record {
+  delegations = tabulate (delegationAt (s .keys .table) (s .delegations)) (s .delegations .count);
+  revocations = tabulate (revocationAt (s .keys .table) (s .revocations)) (s .revocations .count);
+}
+
+-- with m keys held
+pub record GoodDelegations (m : ℕ) (t : Delegations) : Type 0 where
+  pub digests : GoodRuns delegationLimit (t .digests) (t .count)
+  pub issuer : Places delegationLimit (t .count) m (t .issuer)
+  pub audience : Places delegationLimit (t .count) m (t .audience)
+  pub subject : Places delegationLimit (t .count) m (t .subject)
+  pub power : Ranks delegationLimit (t .power)
+  pub cited : length (t .cited) ≡ delegationLimit
+  pub citation : length (t .citation) ≡ runLength * delegationLimit
+
+pub record GoodRevocations (m : ℕ) (t : Revocations) : Type 0 where
+  pub digests : GoodRuns revocationLimit (t .digests) (t .count)
+  pub issuer : Places revocationLimit (t .count) m (t .issuer)
+  pub revoked : length (t .revoked) ≡ runLength * revocationLimit
+
+-- digests are distinct in each table, and keys (GoodRuns); the held keys are exactly those of held certificates; places are held; the version is the number held.
+-- A delegation and a revocation may have equal digest bytes.
+pub record GoodStore (s : Store) : Type 0 where
+  pub keys : GoodRuns keyLimit (s .keys .table) (s .keys .count)
+  pub exact : SameRuns (runs (s .keys .table) (s .keys .count)) (keysIn (committed s))
+  pub delegations : GoodDelegations (s .keys .count) (s .delegations)
+  pub revocations : GoodRevocations (s .keys .count) (s .revocations)
+  pub version : s .version ≡ s .delegations .count + s .revocations .count
+
+-- an insertion into s gave the answer a; where that is Added, the store holds `new`, and else it is s as it was
+pub record Insertion (s : Store) (r : Inserted) (a : Answer) (new : Committed) : Type 0 where
+  pub answer : r .answer ≡ a
+  pub good : GoodStore (r .store)
+  pub held : committed (r .store) ≡ settled a (committed s) new
+  pub kept : isAdded a ≡ false → r .store ≡ s
