@@ -13,3 +13,4 @@ pub mod Seeking
 pub mod Listing
 pub mod Membering
 pub mod OneClosure
+pub mod Stores

@@ -1,10 +1,16 @@
 -- What a State and an Evaluated stand for, and what holds of every one: `new` and every call that returns one ensure it, and with private
 -- fields nobody else can make one. Contracts speak of the committed set alone.
+use mathlib.Core.Path.{_≡_}
+use mathlib.Core.Bool.{false}
 use Rattle.tables.specs.Committed.{Committed}
+use Rattle.tables.specs.Insertion.{isAdded, settled}
+use Rattle.tables.specs.declared.answer.Answer.{Answer}
 use Rattle.tables.specs.Store.{committed, GoodStore}
 use Rattle.evaluation.specs.Result as evaluation
 use Rattle.keyline_memory.specs.Facts.{FactsOf}
 use Rattle.keyline_memory.specs.declared.evaluated.Evaluated.{Evaluated}
+use Rattle.keyline_memory.specs.declared.state.State.{State}
+use Rattle.keyline_memory.specs.declared.state.Inserted.{Inserted}
 
 abbrev pub heldBy : Evaluated → Committed
 heldBy v = committed (v .store)
@@ -14,3 +20,16 @@ pub record GoodEvaluated (v : Evaluated) : Type 0 where
   pub store : GoodStore (v .store)
   pub facts : FactsOf (v .store) (v .evaluation .facts)
   pub evaluation : evaluation.Evaluated (v .evaluation)
+
+abbrev pub heldIn : State → Committed
+heldIn s = committed (s .store)
+
+abbrev pub GoodState : State → Type 0
+GoodState s = GoodStore (s .store)
+
+-- an insertion into s gave the answer a; where that is Added, the set holds `new`, and else it is s as it was
+pub record Insertion (s : State) (r : Inserted) (a : Answer) (new : Committed) : Type 0 where
+  pub answer : r .answer ≡ a
+  pub good : GoodState (r .state)
+  pub held : heldIn (r .state) ≡ settled a (heldIn s) new
+  pub kept : isAdded a ≡ false → r .state ≡ s

@@ -4,3 +4,4 @@ pub mod evaluated;
 pub mod facts;
 pub mod marks;
 pub mod sought;
+pub mod state;
