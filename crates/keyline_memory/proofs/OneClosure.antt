@@ -5,11 +5,11 @@ use Prim.Native.Nat.{ℕ, suc}
 use mathlib.Core.Path.{_≡_, refl, sym, _∙_, ap, subst}
 use mathlib.Core.Bool.{Bool, true, false, cond}
 use mathlib.Core.Logic.{_⊎_, inl, inr, _↔_}
-use lib.ListN.{getD}
+use lib.ListN.{length, getD}
 use mathlib.Core.List.{List, [], _∷_, map, List·Memᴰ, List·Memᴰ·head, List·Memᴰ·tail, List·Memᴰ·cases-cons, List·Memᴰ·not-nil, List-discrete}
 use native.Mathlib.Decide.{ℕ-discrete}
 use native.Mathlib.Omega.{arith}
-use Rattle.rules.specs.Rules.{Closure, Finite, Live, ConveyedIs, StandingIs}
+use Rattle.rules.specs.Rules.{Closure, Finite, Live, ConveyedIs, StandingIs, DelegationTo, RevocationOf}
 use Rattle.rules.specs.OneClosure.{ListedIn, RestsOnClosure}
 use Rattle.rules.proofs.Evaluation.Listing.{lists-same}
 use Rattle.rules.proofs.Stores.OneClosure as rules
@@ -17,8 +17,11 @@ use Rattle.keyline.specs.Power.{rankOf}
 use Rattle.keyline.specs.declared.power.Power.{Power}
 use Rattle.runs.specs.Bytes.{Bytes, eqBytes}
 use Rattle.runs.specs.Members.{has, place}
-use Rattle.tables.specs.Committed.{Delegation, Committed, noDelegation, delegationDigests, delegationWith}
+use Rattle.lists.specs.Lists.{lengthFirst, listAnswer, listBuffer, delegationsTo, revocationsOf, names, fromTo, Item}
+use Rattle.lists.proofs.AreLists.{delegations-list, revocations-list}
+use Rattle.tables.specs.Committed.{Delegation, Revocation, Committed, noDelegation, delegationDigests, delegationWith}
 use Rattle.keyline_memory.specs.Graph.{graph, store}
+use Rattle.lists.specs.declared.write.Listed.{Listed}
 use Rattle.keyline_memory.specs.OneClosure.{Apart, OneClosure, SameAnswers}
 use Rattle.runs.proofs.ByteLaws.{eq-true, eq-same}
 use Rattle.runs.proofs.AscentLaws.{lt-not-both}
@@ -47,6 +50,35 @@ module _ (c : Committed) (apart : Apart c) where
   pub held-named : (d : Delegation) → List·Memᴰ d (c .delegations) → (has (delegationDigests c) (d .digest) ≡ true) × (delegationWith c (d .digest) ≡ d)
   held-named d m = named (c .delegations) d (λ e k q. apart e d k m q) m
 
+-- ## The lists that need no evaluation
+-- what is listed in A is listed in B, where each delegation or revocation that is meant is in both
+both-true : (a b : Bool) → cond a b false ≡ true → (a ≡ true) × (b ≡ true)
+both-true true b h = (refl, h)
+both-true false b h = let z : _≡_ {A = ℕ} 0 1 = cc in absurd (omega arith)
+
+between : (A B : Committed) (s x y : Bytes) → ((d : Delegation) → DelegationTo (graph A) s x d → DelegationTo (graph B) s x d)
+    → Item (λ g. g .digest) (fromTo s x) (A .delegations) y → Item (λ g. g .digest) (fromTo s x) (B .delegations) y
+between A B s x y f i =
+    let e = both-true (eqBytes (i .one .subject) s) (eqBytes (i .one .audience) x) (i .fits) in
+    let t = f (i .one) (record { held = i .held; subject = eq-true (i .one .subject) s (e .0); audience = eq-true (i .one .audience) x (e .1) }) in
+    record { one = i .one; held = t .held; fits = i .fits; is = i .is }
+
+naming : (A B : Committed) (d : Delegation) (y : Bytes) → ((v : Revocation) → RevocationOf (store A) d v → RevocationOf (store B) d v)
+    → Item (λ v. v .digest) (names (d .digest)) (A .revocations) y → Item (λ v. v .digest) (names (d .digest)) (B .revocations) y
+naming A B d y f i =
+    let t = f (i .one) (record { held = i .held; names = eq-true (i .one .revoked) (d .digest) (i .fits) }) in
+    record { one = i .one; held = t .held; fits = i .fits; is = i .is }
+
+-- equal lists give equal answers and bytes, as the answer and the buffer are computed from the list
+listed : (f : List Bytes → Listed) (out : Bytes) {l m : List Bytes} {r q : Listed} {o₁ o₂ : Bytes}
+    → l ≡ m → (r ≡ f l) × (o₁ ≡ listBuffer r l out) → (q ≡ f m) × (o₂ ≡ listBuffer q m out) → (r ≡ q) × (o₁ ≡ o₂)
+listed f out {l} {m} {r} {q} e a b =
+    let p : r ≡ q = a .0 ∙ ap f e ∙ sym (b .0) in
+    (p, a .1 ∙ ap (λ (x : Listed × List Bytes). listBuffer (x .0) (x .1) out) (pair p e) ∙ sym (b .1))
+  where
+    pair : {x y : Listed} {k n : List Bytes} → x ≡ y → k ≡ n → _≡_ {A = Listed × List Bytes} (x, k) (y, n)
+    pair g h = cc
+
 module _ (A B : Committed) (s : Bytes) (apart : Apart A) (apart′ : Apart B) (one : OneClosure A B s) where
   rests : RestsOnClosure (store A) (store B) s
   rests = rules.demand-3 (finite A) (one .there) (one .back)
@@ -65,6 +97,16 @@ module _ (A B : Committed) (s : Bytes) (apart : Apart A) (apart′ : Apart B) (o
     of : (P : Delegation → Delegation → Type 0) → P d d → P (delegationWith A (d .digest)) (delegationWith B (d .digest))
     of P p = rw (here .1, there .1) p
 
+    same-revocations : revocationsOf A (d .digest) ≡ revocationsOf B (d .digest)
+    same-revocations =
+        lists-same lt-not-both (λ x i. naming A B d x (λ v. rests .revocations c .0) i) (λ x i. naming B A d x (λ v. rests .revocations c .1) i)
+        (revocations-list A (d .digest)) (revocations-list B (d .digest))
+
+  same-delegations : (x : Bytes) → delegationsTo A s x ≡ delegationsTo B s x
+  same-delegations x =
+      lists-same lt-not-both (λ y i. between A B s x y (λ d. rests .delegations .0) i) (λ y i. between B A s x y (λ d. rests .delegations .1) i)
+      (delegations-list A s x) (delegations-list B s x)
+
   pub demand-3 : SameAnswers A B s
   demand-3 = record {
     positive = λ x r q. power-settled (λ o p. rests .positive);
@@ -81,4 +123,6 @@ module _ (A B : Committed) (s : Bytes) (apart : Apart A) (apart′ : Apart B) (o
           lists-same (λ d e. lt-not-both (d .digest) (e .digest)) (λ d h. one .there .dels h) (λ d h. one .back .dels h) (a .delegations) (b .delegations),
           lists-same (λ v w. lt-not-both (v .digest) (w .digest)) (λ v h. one .there .revs h) (λ v h. one .back .revs h) (a .revocations) (b .revocations),
         )) a b in (e .answer, e .out);
+    delegations-to = λ x out r q o₁ o₂ a b. listed (λ l. lengthFirst s (lengthFirst x (listAnswer l (length out)))) out (same-delegations x) a b;
+    revocations-of = λ d c out r q o₁ o₂ a b. listed (λ l. lengthFirst (d .digest) (listAnswer l (length out))) out (same-revocations d c) a b;
   }

@@ -3,6 +3,7 @@
 use Prim.Native.Nat.{ℕ}
 use mathlib.Core.Path.{_≡_}
 use mathlib.Core.List.{List, List·Memᴰ}
+use lib.ListN.{length}
 use Rattle.rules.specs.Rules.{Closure}
 use Rattle.rules.specs.OneClosure.{ListedIn}
 use Rattle.runs.specs.Bytes.{Bytes}
@@ -12,6 +13,7 @@ use Rattle.keyline_memory.specs.Answers.{PositivePower, EffectivePower, 
 use Rattle.keyline_memory.specs.declared.answers.Powered.{Powered}
 use Rattle.keyline_memory.specs.declared.answers.Liveness.{Liveness}
 use Rattle.keyline_memory.specs.declared.answers.Stood.{Stood}
+use Rattle.lists.specs.Lists.{lengthFirst, listAnswer, listBuffer, delegationsTo, revocationsOf}
 use Rattle.lists.specs.declared.write.Listed.{Listed}
 use Rattle.lists.specs.declared.write.BothListed.{BothListed}
 
@@ -23,6 +25,14 @@ Apart c = (d e : Delegation) → List·Memᴰ d (c .delegations) → List·Mem�
 pub record OneClosure (A B : Committed) (s : Bytes) : Type 0 where
   pub there : ListedIn (store A) (store B) s
   pub back : ListedIn (store B) (store A) s
+
+-- The two lists that need no evaluation, as their calls' contracts have them: the answer, and then the buffer. Subject s, then audience x.
+abbrev pub DelegationsToAnswer : Committed → Bytes → Bytes → Bytes → Listed → Bytes → Type 0
+DelegationsToAnswer c s x out r o =
+    (r ≡ lengthFirst s (lengthFirst x (listAnswer (delegationsTo c s x) (length out)))) × (o ≡ listBuffer r (delegationsTo c s x) out)
+
+abbrev pub RevocationsOfAnswer : Committed → Bytes → Bytes → Listed → Bytes → Type 0
+RevocationsOfAnswer c x out r o = (r ≡ lengthFirst x (listAnswer (revocationsOf c x) (length out))) × (o ≡ listBuffer r (revocationsOf c x) out)
 
 pub record SameAnswers (A B : Committed) (s : Bytes) : Type 0 where
   -- "the same positive and effective power of every key over it"
@@ -37,3 +47,8 @@ pub record SameAnswers (A B : Committed) (s : Bytes) : Type 0 where
   pub standing : (d : Delegation) → Closure (graph A) s d → (r q : Stood) → StandingAnswer A (d .digest) r → StandingAnswer B (d .digest) q → r ≡ q
   -- and the closure itself
   pub closure : (out : Bytes) (r q : BothListed) (o₁ o₂ : Bytes) → ClosureAnswer A s out r o₁ → ClosureAnswer B s out q o₂ → (r ≡ q) × (o₁ ≡ o₂)
+  -- "Its answers also include `delegations_to` of the subject, and `revocations_of` .. for closure delegations."
+  pub delegations-to : (x out : Bytes) (r q : Listed) (o₁ o₂ : Bytes) → DelegationsToAnswer A s x out r o₁ → DelegationsToAnswer B s x out q o₂
+      → (r ≡ q) × (o₁ ≡ o₂)
+  pub revocations-of : (d : Delegation) → Closure (graph A) s d → (out : Bytes) (r q : Listed) (o₁ o₂ : Bytes)
+      → RevocationsOfAnswer A (d .digest) out r o₁ → RevocationsOfAnswer B (d .digest) out q o₂ → (r ≡ q) × (o₁ ≡ o₂)
