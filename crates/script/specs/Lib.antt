@@ -1,0 +1,4 @@
+pub mod Operation
+pub mod Reply
+pub mod Request
+pub mod Run
