@@ -1,6 +1,6 @@
 # The commands of the repository. Each works from a clean clone with the Rattle kit (rt), cargo and make, and no network.
 
-.PHONY: test run oracle documents exports host compare bench
+.PHONY: test run ask pictures oracle documents exports host compare bench
 
 # The tests: the documents are the ones we work from, the oracle agrees with document 01's plain reading, the host side agrees with the
 # oracle, and the gate of the proofs. `rt ci` is last, so that the last line is its own 'N passed, 0 failed'; it removes target/, and with it
@@ -9,10 +9,17 @@ test: documents oracle host
 	rt fmt --check
 	rt ci
 
-# The main job. For now: prove what exists and run its programs, then let the published Rust answer document 01's specimens.
-run:
-	rt check
-	oracle/run specimens
+# The main job: a building firm's certificates and questions, put to the proved kernel.
+run: ask
+	./keyline examples/building-firm.txt
+
+# Proves and builds the command that ./keyline runs.
+ask:
+	rt check ask
+
+# The authority graphs of some examples, as pictures in docs/pictures (Graphviz from the system; it says what to install where it is not there).
+pictures: ask
+	examples/pictures
 
 # Builds the published Rust over its stand-ins and holds it against document 01's plain reading.
 oracle:
