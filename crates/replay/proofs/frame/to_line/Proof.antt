@@ -1,0 +1,62 @@
+-- `to_line` passes each line once.
+use Prim.Native.Nat.{_-_}
+use native.Mathlib.Omega.{arith}
+use Rattle.replay.proofs.frame.to_line.Statement.{statement}
+use Rattle.replay.proofs.frame.to_line.Tie as tie
+
+abbrev Inv-loop : tie.InvT-loop
+Inv-loop text f at j i₀ i = Unit {0}
+
+abbrev μ-loop : tie.MeasureT-loop
+μ-loop text f at j i₀ i = f .lines - i
+
+loop-holds : tie.Need-loop-holds Inv-loop μ-loop
+loop-holds c = tt
+
+line-requires : tie.Need-line-requires Inv-loop μ-loop
+line-requires c κs = tt
+
+is-to-requires : tie.Need-is-to-requires Inv-loop μ-loop
+is-to-requires c κs = tt
+
+returns : tie.Need-returns Inv-loop μ-loop
+returns c = tt
+
+line-requires-2 : tie.Need-line-requires-2 Inv-loop μ-loop
+line-requires-2 c κs = tt
+
+at-requires : tie.Need-at-requires Inv-loop μ-loop
+at-requires c κs = tt
+
+returns-2 : tie.Need-returns-2 Inv-loop μ-loop
+returns-2 c = tt
+
+add-i : tie.Need-add-i Inv-loop μ-loop
+add-i c = omega arith
+
+loop-less : tie.Need-loop-less Inv-loop μ-loop
+loop-less c = omega arith
+
+loop-again : tie.Need-loop-again Inv-loop μ-loop
+loop-again c = tt
+
+returns-3 : tie.Need-returns-3 Inv-loop μ-loop
+returns-3 c = tt
+
+pub to-line-spec : {M : Type 1} → statement M
+to-line-spec =
+    tie.close
+    (tie.spec
+    Inv-loop
+    μ-loop
+    loop-holds
+    line-requires
+    is-to-requires
+    returns
+    line-requires-2
+    at-requires
+    returns-2
+    add-i
+    loop-less
+    loop-again
+    returns-3)
