@@ -1,13 +1,26 @@
 # The commands of the repository. Each works from a clean clone with the Rattle kit (rt), cargo and make, and no network.
 
-.PHONY: test run ask pictures oracle documents exports host compare bench
+.PHONY: test run ask pictures oracle documents exports linked host compare bench
 
-# The tests: the documents are the ones we work from, the oracle agrees with document 01's plain reading, the host side agrees with the
-# oracle, and the gate of the proofs. `rt ci` is last, so that the last line is its own 'N passed, 0 failed'; it removes target/, and with it
-# the archive that the host side links.
-test: documents oracle host
+# The archive is for x86-64. On another processor the host side calls it through the kit's emulator, which is some ten times slower, so
+# `compare` has fewer stores there; and what is timed there is not the archive but its LLVM module, compiled for that processor
+# (host/emulated/README.md).
+ifeq ($(shell uname -m),x86_64)
+LINKED := $(CURDIR)/target/staticlib
+TIMED := $(CURDIR)/target/staticlib
+STORES :=
+else
+LINKED := $(CURDIR)/target/emulated
+TIMED := $(CURDIR)/target/module
+STORES := --small 40000 --medium 4000 --full 700 --scripts 6000 --mistakes 300
+endif
+CARGO := cd host && SALTBOBBIN_STATICLIB=$(LINKED) cargo
+
+# The tests: the documents are the ones we work from, the oracle agrees with document 01's plain reading, and the gate of the proofs with what
+# is run on top of them (.ci/gate). Its last line is 'N passed, 0 failed'.
+test: documents oracle
 	rt fmt --check
-	rt ci
+	.ci/gate
 
 # The main job: a building firm's certificates and questions, put to the proved kernel.
 run: ask
@@ -33,14 +46,26 @@ documents:
 exports:
 	rt staticlib exports
 
+# What the host side links: the archive itself, or on another processor the bridge to it.
+linked: exports
+ifneq ($(LINKED),$(CURDIR)/target/staticlib)
+	host/emulated/build
+endif
+
 # The host side's tests: a bounded part of what `compare` does.
-host: exports
-	cd host && cargo test --offline --quiet
+host: linked
+	$(CARGO) test --offline --quiet
 
-# The kernel against the published Rust at scale.
-compare: exports
-	cd host && cargo run --offline --quiet --release --bin payloads -- --count 1000000
+# The kernel against the published Rust at scale: payloads, then whole stores. `make compare STORES='--seed 7'` has other stores.
+compare: linked
+	$(CARGO) run --offline --quiet --release --bin payloads -- --count 1000000
+	$(CARGO) run --offline --quiet --release --bin stores -- $(STORES)
 
-# Both sides timed in one run.
+# Both sides timed in one run; whole stores twice, with the published Rust over hashed maps and over ordered ones.
 bench: exports
-	cd host && cargo run --offline --quiet --release --bin bench
+ifneq ($(TIMED),$(CURDIR)/target/staticlib)
+	host/emulated/module
+endif
+	cd host && SALTBOBBIN_STATICLIB=$(TIMED) cargo run --offline --quiet --release --bin bench
+	cd host && SALTBOBBIN_STATICLIB=$(TIMED) cargo run --offline --quiet --release --bin bench_stores
+	cd host && SALTBOBBIN_STATICLIB=$(TIMED) cargo run --offline --quiet --release --features ordered --bin bench_stores

@@ -9,11 +9,16 @@ const FOLDER: &str = "SALTBOBBIN_STATICLIB";
 
 fn main() {
     println!("cargo::rerun-if-env-changed={FOLDER}");
-    if [target("ARCH"), target("OS")] != ["x86_64", "linux"] {
-        println!("cargo::error=libexports.a links into programs for x86-64 Linux alone.");
+    let named = env::var_os(FOLDER).map(PathBuf::from);
+    // a folder that is named may have the bridge of host/emulated, which is for other processors
+    if named.is_none() && [target("ARCH"), target("OS")] != ["x86_64", "linux"] {
+        println!(
+            "cargo::error=The proved libexports.a links into programs for x86-64 Linux alone: \
+             host/emulated/README.md says how to call it from another processor."
+        );
         return;
     }
-    let folder = env::var_os(FOLDER).map_or_else(default_folder, PathBuf::from);
+    let folder = named.unwrap_or_else(default_folder);
     let archive = folder.join("libexports.a");
     println!("cargo::rerun-if-changed={}", archive.display());
     if !archive.is_file() {

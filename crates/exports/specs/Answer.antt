@@ -2,6 +2,7 @@
 -- that nothing was refused. Each part that an answer does not have is 0. Rests on keyline's definitions.
 use Prim.Native.Nat.{ℕ}
 use mathlib.Core.Bool.{Bool, cond}
+use mathlib.Core.List.{List}
 use Rattle.keyline.specs.Limits.{digestLength}
 use Rattle.keyline.specs.Power.{rankOf, byteOf}
 use Rattle.keyline.specs.Refusal.{numberOf, besideOf}
@@ -9,6 +10,9 @@ use Rattle.keyline.specs.declared.delegation.Decoded.{Decoded}
 use Rattle.keyline.specs.declared.delegation.Decoded.the-variants.{Accepted, Refused}
 use Rattle.keyline.specs.declared.delegation.Encoded.{Encoded}
 use Rattle.keyline.specs.declared.delegation.Encoded.the-variants as answer
+use Rattle.script.specs.Run.{RanAs}
+use Rattle.script.specs.declared.run.Ran.{Ran}
+use Rattle.script.specs.declared.run.Ran.the-variants as ran
 
 -- the number of an answer that is no refusal
 abbrev pub notRefused : ℕ
@@ -56,3 +60,21 @@ encodeBeside (answer.Refused r) = besideOf r
 abbrev pub encodeWritten : Encoded → ℕ
 encodeWritten (answer.Bytes n) = n
 encodeWritten (answer.Refused r) = 0
+
+-- A script's run: the refusal's number, the value beside it and the number of bytes written, from what `run` of `script` answers. The
+-- answers are those of `RanAs`, which says them request by request.
+abbrev pub runNumber : Ran → ℕ
+runNumber (ran.Bytes n) = notRefused
+runNumber (ran.Refused r) = numberOf r
+
+abbrev pub runBeside : Ran → ℕ
+runBeside (ran.Bytes n) = 0
+runBeside (ran.Refused r) = besideOf r
+
+abbrev pub runUsed : Ran → ℕ
+runUsed (ran.Bytes n) = n
+runUsed (ran.Refused r) = 0
+
+-- script and answers; then the number, the answers afterwards, the bytes used, and the value beside
+pub data RunIs (script answers : List ℕ) : ℕ → List ℕ → ℕ → ℕ → Type 0 where
+  ran-as : {r : Ran} {out : List ℕ} → RanAs script answers r out → RunIs script answers (runNumber r) out (runUsed r) (runBeside r)

@@ -1,12 +1,15 @@
-// The delegation payload's reader and writer for callers through C, the app's Rust among them. keyline.h beside src/ is their declaration.
+// The delegation payload's reader and writer, and the whole kernel on a script, for callers through C, the app's Rust among them.
+// keyline.h beside src/ is their declaration.
 // Each answers a refusal's number, or 0, and puts every other part of the answer behind a pointer of the caller's.
 use keyline::delegation::Decoded;
 use keyline::delegation::Encoded;
 use keyline::limits::DIGEST_LENGTH;
+use script::run::Ran;
 ghost use mathlib.Core.Path.{_≡_};
 ghost use lib.ListN.{length};
 ghost use Rattle.keyline.specs.Delegation.{decoded, citationOf, encodeAnswer, afterEncode};
 ghost use Rattle.exports.specs.Answer.{decodeNumber, decodeBeside, decodePower, decodeRank, citationBytes, encodeNumber, encodeBeside, encodeWritten};
+ghost use Rattle.exports.specs.Answer.{RunIs};
 
 // The number of an answer that is no refusal.
 const NOT_REFUSED: u8 = 0;
@@ -75,6 +78,31 @@ pub extern "C" fn keyline_delegation_encode(
         }
         Encoded::Refused(r) => {
             *written = 0;
+            *beside = keyline::refusal::beside(r);
+            keyline::refusal::number(r)
+        }
+    }
+}
+
+// Runs a script (docs/SCRIPT.md) from the empty set; the replies go to the front of answers. Behind the pointers: the number of bytes
+// written, and the value beside a refusal.
+#[no_mangle]
+pub extern "C" fn keyline_run(
+    script: &[u8],
+    answers: &mut [u8],
+    used: &mut usize,
+    beside: &mut usize,
+) -> u8
+    ensures { λ r. ⌜ RunIs (now (script .entry)) (now (answers .entry)) r (now (answers .exit)) (now (used .exit)) (now (beside .exit)) ⌝ }
+{
+    match script::run::run(script, answers) {
+        Ran::Bytes(n) => {
+            *used = n;
+            *beside = 0;
+            NOT_REFUSED
+        }
+        Ran::Refused(r) => {
+            *used = 0;
             *beside = keyline::refusal::beside(r);
             keyline::refusal::number(r)
         }

@@ -30,6 +30,20 @@ fn payloads_shows_the_first_difference() {
 }
 
 #[test]
+fn stores_says_what_it_compared() {
+    let stores = env!("CARGO_BIN_EXE_stores");
+    let few =
+        ["--small", "8", "--medium", "1", "--full", "0", "--scripts", "8", "--mistakes", "0", "--seed", "9"];
+    let (status, said) = run(stores, &few);
+    let last = said.lines().last().expect("a last line");
+    assert_eq!(status, 0, "{said}");
+    assert!(last.starts_with("stores: 9 stores and ") && last.contains(" 0 differences; "), "{last}");
+    assert!(last.contains("(seed 9, "), "{last}");
+    assert_eq!(run(stores, &["--small"]).0, 2);
+    assert_eq!(run(stores, &["--large", "3"]).0, 2);
+}
+
+#[test]
 fn bench_prints_its_table() {
     let (status, said) = run(env!("CARGO_BIN_EXE_bench"), &["1"]);
     assert_eq!(status, 0);

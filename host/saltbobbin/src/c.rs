@@ -1,6 +1,6 @@
 //! The C functions of crates/exports/keyline.h, each called on Rust's slices and answering all that it put
-//! behind its pointers. [`delegation`](crate::delegation) has the same with Rust's types: most callers want
-//! that one.
+//! behind its pointers. [`delegation`](crate::delegation), [`script`](crate::script) and
+//! [`Kernel`](crate::Kernel) have the same with Rust's types: most callers want those.
 //!
 //! The only unsafe code of the library is here. What it rests on, beside the functions' proofs: a `&[u8]` is
 //! readable, a `&mut [u8]` writable and nobody else's, neither pointer is ever null, no slice is longer than
@@ -27,6 +27,15 @@ unsafe extern "C" {
         out: *mut u8,
         out_length: usize,
         written: *mut usize,
+        beside: *mut usize,
+    ) -> u8;
+
+    fn keyline_run(
+        script: *const u8,
+        script_length: usize,
+        answers: *mut u8,
+        answers_length: usize,
+        used: *mut usize,
         beside: *mut usize,
     ) -> u8;
 }
@@ -110,6 +119,36 @@ pub fn delegation_encode(
     Encoded { number, written, beside }
 }
 
+/// The whole answer of `keyline_run`, but for the replies.
+#[derive(Clone, Copy, Debug, PartialEq, Eq)]
+pub struct Ran {
+    /// 0, or the number of the refusal of the whole script.
+    pub number: u8,
+    /// The bytes of the replies, or 0 on a refusal.
+    pub used: usize,
+    /// 0, or on a refusal the value beside the number.
+    pub beside: usize,
+}
+
+/// Runs a script from the empty set and puts the replies to the front of `answers`; on a refusal of the script
+/// `answers` stays as it was.
+pub fn run(script: &[u8], answers: &mut [u8]) -> Ran {
+    let (mut used, mut beside) = (UNWRITTEN, UNWRITTEN);
+    // SAFETY: the script is readable for its length, `answers` is writable and does not overlap it, and each
+    // pointer is to a local of its own.
+    let number = unsafe {
+        keyline_run(
+            script.as_ptr(),
+            script.len(),
+            answers.as_mut_ptr(),
+            answers.len(),
+            &mut used,
+            &mut beside,
+        )
+    };
+    Ran { number, used, beside }
+}
+
 #[cfg(test)]
 mod tests {
     use super::*;
@@ -182,6 +221,35 @@ mod tests {
                 delegation_encode(&key[..audience], &key, power, &key[..citation], &mut out[..room]);
             assert_eq!(number, expected.number);
             assert_eq!((written, beside), (guarded(expected.written), guarded(expected.beside)));
+        }
+    }
+
+    #[test]
+    fn a_run_writes_its_numbers_and_nothing_around_them() {
+        let version = [16, 0, 0, 0, 0, 0, 0, 0, 0, 0];
+        for (length, operation, room) in
+            [(10, 16, 9), (10, 16, 30), (0, 16, 0), (9, 16, 9), (10, 99, 9), (10, 16, 8)]
+        {
+            let mut script = version;
+            script[0] = operation;
+            let mut answers = [0xb5; 30];
+            let (mut used, mut beside) = (guarded(UNWRITTEN), guarded(UNWRITTEN));
+            // SAFETY: as in `run`; no length is above its array's.
+            let number = unsafe {
+                keyline_run(
+                    script.as_ptr(),
+                    length,
+                    answers.as_mut_ptr(),
+                    room,
+                    &mut used.number,
+                    &mut beside.number,
+                )
+            };
+            let mut again = [0xb5; 30];
+            let expected = run(&script[..length], &mut again[..room]);
+            assert_eq!((number, answers), (expected.number, again));
+            assert_eq!((used, beside), (guarded(expected.used), guarded(expected.beside)));
+            assert!(answers[expected.used..].iter().all(|byte| *byte == 0xb5));
         }
     }
 }

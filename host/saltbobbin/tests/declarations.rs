@@ -2,7 +2,11 @@
 //! either against the Rattle source of the proved functions, so this test does: it reads the three texts,
 //! puts each declaration into C's words and asks that they are the same, and that the library has the header's
 //! numbers. A slice of Rattle's is a pointer and then a length, as the header says.
-use saltbobbin::{delegation, Power, Refusal};
+use saltbobbin::{
+    delegation,
+    script::{self, Operation},
+    Power, Refusal, MOST_DELEGATIONS, MOST_KEYS, MOST_REVOCATIONS,
+};
 use std::{
     fs,
     path::{Path, PathBuf},
@@ -95,6 +99,10 @@ fn the_library_has_the_headers_numbers() {
         ("UNEXPECTED_END", Refusal::UnexpectedEnd.number().into()),
         ("TRAILING_BYTES", Refusal::TrailingBytes.number().into()),
         ("INVALID_TAG", Refusal::InvalidTag(0).number().into()),
+        ("CONFLICT", Refusal::Conflict.number().into()),
+        ("FULL_DELEGATIONS", Refusal::FullDelegations(0).number().into()),
+        ("FULL_REVOCATIONS", Refusal::FullRevocations(0).number().into()),
+        ("FULL_KEYS", Refusal::FullKeys(0).number().into()),
         ("SMALL_BUFFER", Refusal::SmallBuffer(0).number().into()),
         ("KEY_LENGTH", delegation::KEY_LENGTH),
         ("DIGEST_LENGTH", delegation::DIGEST_LENGTH),
@@ -107,14 +115,34 @@ fn the_library_has_the_headers_numbers() {
         ("READ", Power::Read.byte().into()),
         ("EDIT", Power::Edit.byte().into()),
         ("ADMIN", Power::Admin.byte().into()),
+        ("MOST_KEYS", MOST_KEYS),
+        ("MOST_DELEGATIONS", MOST_DELEGATIONS),
+        ("MOST_REVOCATIONS", MOST_REVOCATIONS),
+        ("REQUEST_HEAD", script::REQUEST_HEAD),
+        ("REPLY_HEAD", script::REPLY_HEAD),
+        ("MOST_SCRIPT", script::MOST_SCRIPT),
     ];
+    let operations = Operation::ALL.map(|operation| (header_name(operation), operation.byte().into()));
+    let standings = ["ABSENT", "LIVE", "REVOKED", "UNSUPPORTED"].into_iter().zip(0..);
+    let expected = expected.into_iter().map(|(name, value)| (name.to_string(), value));
+    let standings = standings.map(|(name, value)| (name.to_string(), value));
+    let expected: Vec<(String, usize)> = expected.chain(operations).chain(standings).collect();
     let header = text("keyline.h");
-    let found: Vec<(&str, usize)> = pieces(&header, "#define KEYLINE_", "\n")
+    let found: Vec<(String, usize)> = pieces(&header, "#define KEYLINE_", "\n")
         .filter_map(|line| line.split_once(' '))
         .map(|(name, value)| match value.as_bytes() {
-            [b'\'', letter, b'\''] => (name, usize::from(*letter)),
-            _ => (name, value.parse().expect("a number")),
+            [b'\'', letter, b'\''] => (name.to_string(), usize::from(*letter)),
+            _ => (name.to_string(), value.parse().expect("a number")),
         })
         .collect();
     assert_eq!(found, expected);
+}
+
+/// `InsertDelegation` is `OP_INSERT_DELEGATION`.
+fn header_name(operation: Operation) -> String {
+    let parted = format!("{operation:?}").chars().fold("OP".to_string(), |name, letter| {
+        let part = if letter.is_ascii_uppercase() { "_" } else { "" };
+        format!("{name}{part}{}", letter.to_ascii_uppercase())
+    });
+    parted
 }
