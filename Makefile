@@ -3,15 +3,17 @@
 .PHONY: test run ask pictures oracle documents exports linked host compare bench
 
 # The archive is for x86-64. On another processor the host side calls it through the kit's emulator, which is some ten times slower, so
-# `compare` has fewer stores there; and what is timed there is not the archive but its LLVM module, compiled for that processor
+# `compare` has fewer questions there; and what is timed there is not the archive but its LLVM module, compiled for that processor
 # (host/emulated/README.md).
 ifeq ($(shell uname -m),x86_64)
 LINKED := $(CURDIR)/target/staticlib
 TIMED := $(CURDIR)/target/staticlib
+PAYLOADS := --count 1000000
 STORES :=
 else
 LINKED := $(CURDIR)/target/emulated
 TIMED := $(CURDIR)/target/module
+PAYLOADS := --count 100000
 STORES := --small 40000 --medium 4000 --full 700 --scripts 6000 --mistakes 300
 endif
 CARGO := cd host && SALTBOBBIN_STATICLIB=$(LINKED) cargo
@@ -58,7 +60,7 @@ host: linked
 
 # The kernel against the published Rust at scale: payloads, then whole stores. `make compare STORES='--seed 7'` has other stores.
 compare: linked
-	$(CARGO) run --offline --quiet --release --bin payloads -- --count 1000000
+	$(CARGO) run --offline --quiet --release --bin payloads -- $(PAYLOADS)
 	$(CARGO) run --offline --quiet --release --bin stores -- $(STORES)
 
 # Both sides timed in one run; whole stores twice, with the published Rust over hashed maps and over ordered ones.

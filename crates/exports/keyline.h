@@ -9,13 +9,14 @@
  *
  *   - Numbers pass as themselves: u8 as uint8_t, usize as size_t.
  *   - A slice passes as a pointer and then the number of its bytes. The pointer is to that many bytes, which are readable, and for a
- *     slice that is written (`out`, `answers`) writable, during the whole call. The number is below 2^63. An empty slice may have any pointer
- *     but null; nothing is read or written through it.
+ *     slice that is written (`out`, `answers`) writable, during the whole call. The number is below 2^63. An empty slice may have any
+ *     pointer but null; nothing is read or written through it.
  *   - A pointer to one number (`beside`, `power`, `rank`, `citation` of the reader, `written`, `used`) is not null, is aligned for its
- *     type, and is to a number that may be written. What it holds before the call is not used; it is written on every call, on a refusal too.
- *   - What a call may write is that call's alone: `out`, `answers` and the numbers behind pointers overlap neither each other nor any slice that
- *     is read, and no one else reads or writes them until the call returns. Slices that are only read may overlap one another; no one
- *     writes to them until the call returns.
+ *     type, and is to a number that may be written. What it holds before the call is not used; it is written on every call, on a
+ *     refusal too.
+ *   - What a call may write is that call's alone: `out`, `answers` and the numbers behind pointers overlap neither each other nor any
+ *     slice that is read, and no one else reads or writes them until the call returns. Slices that are only read may overlap one
+ *     another; no one writes to them until the call returns.
  *   - No pointer is kept after the call. The functions keep no state, and may be called from several threads at once.
  *
  * A number from 1 to 9 says why a call refused, as in document 01's table; the value beside it is written to *beside, or for a request

@@ -4,7 +4,6 @@
  * SERVER is the command, as strings with commas between them: the build says it. */
 #include "../../crates/exports/keyline.h"
 #include <pthread.h>
-#include <signal.h>
 #include <spawn.h>
 #include <stdio.h>
 #include <stdlib.h>
@@ -80,7 +79,8 @@ uint8_t keyline_delegation_decode(const uint8_t *payload, size_t payload_length,
                                   size_t *beside, uint8_t *power, uint8_t *rank, size_t *citation) {
     uint64_t values[4];
     uint8_t none[1];
-    uint8_t number = call(DECODE, 0, (const uint8_t *[]){payload, none, none, none}, (uint64_t[]){payload_length, 0, 0, 0}, none, values);
+    uint8_t number = call(DECODE, 0, (const uint8_t *[]){payload, none, none, none},
+                          (uint64_t[]){payload_length, 0, 0, 0}, none, values);
     *beside = values[0], *power = (uint8_t)values[1], *rank = (uint8_t)values[2], *citation = values[3];
     return number;
 }
@@ -103,7 +103,8 @@ uint8_t keyline_run(const uint8_t *script, size_t script_length,
                     size_t *used, size_t *beside) {
     uint64_t values[4];
     uint8_t none[1];
-    uint8_t number = call(RUN, 0, (const uint8_t *[]){script, none, none, answers}, (uint64_t[]){script_length, 0, 0, answers_length}, answers, values);
+    uint8_t number = call(RUN, 0, (const uint8_t *[]){script, none, none, answers},
+                          (uint64_t[]){script_length, 0, 0, answers_length}, answers, values);
     *used = values[0], *beside = values[1];
     return number;
 }

@@ -224,12 +224,11 @@ impl PlainStore {
         let most = if self.slip == OneFewer { MOST_DELEGATIONS - 1 } else { MOST_DELEGATIONS };
         let full = (self.held.delegations.len() >= most).then_some((FULL_DELEGATIONS, MOST_DELEGATIONS));
         let keys = [new.issuer, new.audience(), new.subject()];
-        self.room_for(if elsewhere { Some(false) } else { same }, full, &keys).map(|added| {
-            if added {
-                self.held.delegations.push(new);
-            }
-            added
-        })
+        let added = self.room_for(if elsewhere { Some(false) } else { same }, full, &keys)?;
+        if added {
+            self.held.delegations.push(new);
+        }
+        Ok(added)
     }
 
     fn insert_revocation(&mut self, [digest, issuer, revoked]: [&[u8]; 3]) -> Result<bool, Refused> {
@@ -239,12 +238,11 @@ impl PlainStore {
         let same = held.map(|held| held.issuer == new.issuer && held.revoked == new.revoked);
         let full = self.held.revocations.len() >= MOST_REVOCATIONS;
         let full = full.then_some((FULL_REVOCATIONS, MOST_REVOCATIONS));
-        self.room_for(same, full, &[new.issuer]).map(|added| {
-            if added {
-                self.held.revocations.push(new);
-            }
-            added
-        })
+        let added = self.room_for(same, full, &[new.issuer])?;
+        if added {
+            self.held.revocations.push(new);
+        }
+        Ok(added)
     }
 
     /// The checks that both kinds share, from the identity on: `held` says whether it is held and with the same
