@@ -18,11 +18,13 @@ pub fn conveyed_power(v: Evaluation, delegation: DelegationPlace) -> u8
 {
     let facts = v.facts;
     let d = delegation.0;
-    let g = v.grades[d];
+    let grades = v.grades;
+    let g = grades[d];
     if g == 0 {
         return 0;
     }
-    if v.excluded[d] != 0 {
+    let excluded = v.excluded;
+    if excluded[d] != 0 {
         return g;
     }
     let row = levels(v, KeyPlace(wide(facts.subject[d])));

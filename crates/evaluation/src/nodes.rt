@@ -15,12 +15,13 @@ pub fn nodes(v: Evaluation, subject: KeyPlace) -> u64
     ensures { λ w. ⌜ Word w (Node (places (v .facts)) (subject .0)) ⌝ }
 {
     let s = subject.0;
+    let reaches = v.reaches;
     let mut w = 0;
     let mut x = 0;
     while x < KEY_LIMIT {
         let k = x;
         x += 1;
-        if v.reaches[s * KEY_LIMIT + k] != 0 {
+        if reaches[s * KEY_LIMIT + k] != 0 {
             w = keyset::with(w, k);
         }
     }

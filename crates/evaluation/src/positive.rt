@@ -85,5 +85,6 @@ pub fn positive_power(v: Evaluation, subject: KeyPlace, key: KeyPlace) -> u8
 {
     let s = subject.0;
     let x = key.0;
-    v.reaches[s * KEY_LIMIT + x]
+    let reaches = v.reaches;
+    reaches[s * KEY_LIMIT + x]
 }

@@ -38,12 +38,13 @@ pub fn standing_of(v: Evaluation, delegation: DelegationPlace) -> Standing
     requires { ⌜ Evaluated v × (delegation .0 < v .facts .delegations) ⌝ }
     ensures { λ r. ⌜ StandingIs (places (v .facts)) (delegation .0) (standingOf r) ⌝ }
 {
-    let facts = v.facts;
     let d = delegation.0;
-    if v.grades[d] != 0 {
+    let grades = v.grades;
+    if grades[d] != 0 {
         return Standing::Live;
     }
-    if named(&facts.target, facts.revocations, d) {
+    let target = v.facts.target;
+    if named(&target, v.facts.revocations, d) {
         return Standing::Revoked;
     }
     Standing::Unsupported

@@ -1,4 +1,5 @@
-// The set with its evaluation, one value, so that no question can be put to the evaluation of another set.
+// The set with its evaluation, one value, so that no question can be put to the evaluation of another set. A question lends copies of the
+// columns that it looks at: of a value whose own part is lent the whole is copied.
 use crate::answers;
 use crate::answers::Liveness;
 use crate::answers::Powered;
@@ -47,7 +48,8 @@ impl Evaluated {
         ensures { λ r. ⌜ PositivePower (heldBy self) (now (subject .entry)) (now (audience .entry)) r ⌝ }
     {
         let n = self.store.keys.count;
-        let asked = sought::seek_pair(&self.store.keys.table, n, subject, audience);
+        let table = self.store.keys.table;
+        let asked = sought::seek_pair(&table, n, subject, audience);
         match asked {
             Pair::Refused(why) => Powered::Refused(why),
             Pair::Same => Powered::Level(Power::Admin),
@@ -65,7 +67,8 @@ impl Evaluated {
         ensures { λ r. ⌜ EffectivePower (heldBy self) (now (subject .entry)) (now (audience .entry)) r ⌝ }
     {
         let n = self.store.keys.count;
-        let asked = sought::seek_pair(&self.store.keys.table, n, subject, audience);
+        let table = self.store.keys.table;
+        let asked = sought::seek_pair(&table, n, subject, audience);
         match asked {
             Pair::Refused(why) => Powered::Refused(why),
             Pair::Same => Powered::Level(Power::Admin),
@@ -85,7 +88,8 @@ impl Evaluated {
         ensures { λ r. ⌜ ConveyedPower (heldBy self) (now (digest .entry)) r ⌝ }
     {
         let n = self.store.delegations.count;
-        let asked = sought::seek_delegation(&self.store.delegations.digests, n, digest);
+        let digests = self.store.delegations.digests;
+        let asked = sought::seek_delegation(&digests, n, digest);
         match asked {
             SoughtDelegation::Refused(why) => Powered::Refused(why),
             SoughtDelegation::Unheld => Powered::Nothing,
@@ -102,7 +106,8 @@ impl Evaluated {
         ensures { λ r. ⌜ StandingAnswer (heldBy self) (now (digest .entry)) r ⌝ }
     {
         let n = self.store.delegations.count;
-        let asked = sought::seek_delegation(&self.store.delegations.digests, n, digest);
+        let digests = self.store.delegations.digests;
+        let asked = sought::seek_delegation(&digests, n, digest);
         match asked {
             SoughtDelegation::Refused(why) => Stood::Refused(why),
             SoughtDelegation::Unheld => Stood::Absent,
@@ -124,7 +129,8 @@ impl Evaluated {
         ensures { λ r. ⌜ IsLive (heldBy self) (now (digest .entry)) r ⌝ }
     {
         let n = self.store.delegations.count;
-        let asked = sought::seek_delegation(&self.store.delegations.digests, n, digest);
+        let digests = self.store.delegations.digests;
+        let asked = sought::seek_delegation(&digests, n, digest);
         match asked {
             SoughtDelegation::Refused(why) => Liveness::Refused(why),
             SoughtDelegation::Unheld => Liveness::Dead,
@@ -146,7 +152,8 @@ impl Evaluated {
         ensures { λ r. ⌜ MembersAnswer (heldBy self) (now (subject .entry)) (now (keys .entry)) (now (powers .entry)) r (now (keys .exit)) (now (powers .exit)) ⌝ }
     {
         let n = self.store.keys.count;
-        let asked = sought::seek_key(&self.store.keys.table, n, subject);
+        let table = self.store.keys.table;
+        let asked = sought::seek_key(&table, n, subject);
         match asked {
             SoughtKey::Refused(why) => Listed::Refused(why),
             SoughtKey::Unheld => Listed::Items(0),
@@ -154,7 +161,7 @@ impl Evaluated {
                 let v = self.evaluation;
                 let row = evaluation::levels::levels(v, s);
                 let on = marks::member_marks(&row, n, s.0);
-                let c = runs::list::choose(&self.store.keys.table, KEY_LIMIT, n, &on);
+                let c = runs::list::choose(&table, KEY_LIMIT, n, &on);
                 let letters = marks::letters(&row);
                 let k = keyset::count(marks::member_word(&row, n, s.0));
                 let need = KEY_LENGTH * k;
@@ -164,7 +171,7 @@ impl Evaluated {
                 if powers.len() < k {
                     return Listed::Refused(Refusal::SmallBuffer(k));
                 }
-                runs::list::put_runs(&self.store.keys.table, &c.places, k, keys);
+                runs::list::put_runs(&table, &c.places, k, keys);
                 runs::list::put_values(&letters, &c.places, k, powers);
                 Listed::Items(k)
             }
@@ -177,7 +184,8 @@ impl Evaluated {
         ensures { λ r. ⌜ ClosureAnswer (heldBy self) (now (subject .entry)) (now (out .entry)) r (now (out .exit)) ⌝ }
     {
         let n = self.store.keys.count;
-        let asked = sought::seek_key(&self.store.keys.table, n, subject);
+        let table = self.store.keys.table;
+        let asked = sought::seek_key(&table, n, subject);
         match asked {
             SoughtKey::Refused(why) => BothListed::Refused(why),
             SoughtKey::Unheld => BothListed::Items(0, 0),
@@ -186,29 +194,16 @@ impl Evaluated {
                 let nodes = evaluation::nodes::nodes(v, s);
                 let d = self.store.delegations.count;
                 let m = self.store.revocations.count;
-                let dels = marks::in_nodes(&self.store.delegations.subject, d, nodes);
+                let subjects = self.store.delegations.subject;
+                let dels = marks::in_nodes(&subjects, d, nodes);
                 let facts = v.facts;
                 let target = facts.target;
                 let revs = marks::naming(&target, m, &dels, d);
-                let a = runs::list::choose(
-                    &self.store.delegations.digests,
-                    DELEGATION_LIMIT,
-                    d,
-                    &dels,
-                );
-                let b = runs::list::choose(
-                    &self.store.revocations.digests,
-                    REVOCATION_LIMIT,
-                    m,
-                    &revs,
-                );
-                lists::write::write_both(
-                    &self.store.delegations.digests,
-                    &self.store.revocations.digests,
-                    a,
-                    b,
-                    out,
-                )
+                let delegations = self.store.delegations.digests;
+                let revocations = self.store.revocations.digests;
+                let a = runs::list::choose(&delegations, DELEGATION_LIMIT, d, &dels);
+                let b = runs::list::choose(&revocations, REVOCATION_LIMIT, m, &revs);
+                lists::write::write_both(&delegations, &revocations, a, b, out)
             }
         }
     }

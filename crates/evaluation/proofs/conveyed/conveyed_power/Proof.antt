@@ -16,21 +16,21 @@ use Rattle.evaluation.proofs.conveyed.conveyed_power.Tie as tie
 place : (c : tie.Start) → c .args .delegation .0 < delegationLimit
 place c = omega (arith, c .pre .1, c .pre .0 .fit .delegations-le)
 
-element-copy-out-g : tie.Need-element-copy-out-g
-element-copy-out-g c = place (c .before)
+array-read-g : tie.Need-array-read-g
+array-read-g c = place (c .before .before)
 
 returns : tie.Need-returns
-returns c = conveyed-none (c .before .before .before .args .t1 .facts) (c .before .before .before .args .t1 .grades) (c .before .before .before .pre .0 .grades) (c .before .before .before .args .delegation .0) (c .if1 .taken)
+returns c = conveyed-none (c .before .before .before .args .v .facts) (c .before .before .before .args .v .grades) (c .before .before .before .pre .0 .grades) (c .before .before .before .args .delegation .0) (c .if1 .taken)
 
 mul-if2 : tie.Need-mul-if2
 mul-if2 c = search needs
 
-element-copy-out-if2 : tie.Need-element-copy-out-if2
-element-copy-out-if2 c = place (c .before .before .before)
+array-read-if2 : tie.Need-array-read-if2
+array-read-if2 c = place (c .before .before .before .before)
 
 returns-2 : tie.Need-returns-2
 returns-2 c =
-    let v = c .before .before .before .before .before .args .t1 in
+    let v = c .before .before .before .before .before .args .v in
     let K = c .before .before .before .before .before .pre .0 in
     let d = c .before .before .before .before .before .args .delegation .0 in
     conveyed-cap (v .facts) (v .grades) (K .grades) d (omega (arith, c .before .before .if1 .left)) (λ u. u .uncovered .not (net-covered (v .facts) (v .excluded) (K .excluded) d (omega (arith, c .if2 .taken))))
@@ -61,7 +61,7 @@ least-requires c κs = search needs
 
 returns-3 : tie.Need-returns-3
 returns-3 c =
-    let v = c .before .before .before .before .before .before .before .before .before .before .before .args .t1 in
+    let v = c .before .before .before .before .before .before .before .before .before .before .before .args .v in
     let K = c .before .before .before .before .before .before .before .before .before .before .before .pre .0 in
     let d = c .before .before .before .before .before .before .before .before .before .before .before .args .delegation .0 in
     let row = c .before .before .before .levels .result in
@@ -77,10 +77,10 @@ pub conveyed-power-spec : {M : Type 1} → statement M
 conveyed-power-spec =
     tie.close
     (tie.spec
-    element-copy-out-g
+    array-read-g
     returns
     mul-if2
-    element-copy-out-if2
+    array-read-if2
     returns-2
     element-copy-out-wide
     wide-requires

@@ -14,10 +14,10 @@ use Rattle.evaluation.proofs.nodes.nodes.Statement.{statement}
 use Rattle.evaluation.proofs.nodes.nodes.Tie as tie
 
 abbrev Inv-loop : tie.InvT-loop
-Inv-loop v s w₀ x₀ w x = (x ≤ keyLimit) × Word w (Below x (λ k. 0 < cell (v .reaches) s k))
+Inv-loop s reaches w₀ x₀ w x = (x ≤ keyLimit) × Word w (Below x (λ k. 0 < cell reaches s k))
 
 abbrev μ-loop : tie.MeasureT-loop
-μ-loop v s w₀ x₀ w x = keyLimit - x
+μ-loop s reaches w₀ x₀ w x = keyLimit - x
 
 loop-holds : tie.Need-loop-holds Inv-loop μ-loop
 loop-holds c = (search needs, below-none _)
@@ -31,8 +31,8 @@ mul-if1 c = search needs
 add-if1 : tie.Need-add-if1 Inv-loop μ-loop
 add-if1 c = search needs
 
-element-copy-out-if1 : tie.Need-element-copy-out-if1 Inv-loop μ-loop
-element-copy-out-if1 c = search needs
+array-read-if1 : tie.Need-array-read-if1 Inv-loop μ-loop
+array-read-if1 c = search needs
 
 with-requires : tie.Need-with-requires Inv-loop μ-loop
 with-requires c κs = search needs
@@ -41,16 +41,16 @@ loop-less : tie.Need-loop-less Inv-loop μ-loop
 loop-less c = search needs
 
 loop-again : tie.Need-loop-again Inv-loop μ-loop
-loop-again c = (search needs, below-more (c .before .before .before .before .loop .x) (c .before .before .before .before .loop .inv .1) (c .with .ensures .0) (c .with .ensures .1) (omega (arith, c .before .if1 .taken)))
+loop-again c = (search needs, below-more (c .before .before .before .loop .x) (c .before .before .before .loop .inv .1) (c .with .ensures .0) (c .with .ensures .1) (omega (arith, c .before .if1 .taken)))
 
 loop-less-2 : tie.Need-loop-less-2 Inv-loop μ-loop
 loop-less-2 c = search needs
 
 loop-again-2 : tie.Need-loop-again-2 Inv-loop μ-loop
-loop-again-2 c = (search needs, below-skip (c .before .before .before .loop .x) (c .before .before .before .loop .inv .1) (λ p. omega (arith, c .if1 .left)))
+loop-again-2 c = (search needs, below-skip (c .before .before .loop .x) (c .before .before .loop .inv .1) (λ p. omega (arith, c .if1 .left)))
 
 returns : tie.Need-returns Inv-loop μ-loop
-returns c = nodes-are (c .before .before .args .t1) (c .before .before .pre .0) (c .before .before .args .subject .0) (c .before .before .pre .1) (c .before .loop .w) (c .before .loop .x) (let q : c .before .loop .x ≡ keyLimit = omega arith in q) (c .before .loop .inv .1)
+returns c = nodes-are (c .before .before .before .args .v) (c .before .before .before .pre .0) (c .before .before .before .args .subject .0) (c .before .before .before .pre .1) (c .before .loop .w) (c .before .loop .x) (let q : c .before .loop .x ≡ keyLimit = omega arith in q) (c .before .loop .inv .1)
 
 pub nodes-spec : {M : Type 1} → statement M
 nodes-spec =
@@ -62,7 +62,7 @@ nodes-spec =
     add-x
     mul-if1
     add-if1
-    element-copy-out-if1
+    array-read-if1
     with-requires
     loop-less
     loop-again
