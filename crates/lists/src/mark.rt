@@ -3,6 +3,7 @@ use keyline::limits::DELEGATION_LIMIT;
 use keyline::limits::KEY_LIMIT;
 use keyline::limits::REVOCATION_LIMIT;
 use places::KeyPlace;
+use places::wide;
 use runs::bytes;
 ghost use mathlib.Core.Path.{_≡_};
 ghost use mathlib.Core.Bool.{Bool, true, false, cond};
@@ -27,7 +28,7 @@ pub fn subjects(subject: &[u8], n: usize) -> [bool; KEY_LIMIT]
     let mut on = [false; KEY_LIMIT];
     let mut i = 0;
     while i < n {
-        let k = bytes::wide(subject[i]);
+        let k = wide(subject[i]);
         on[k] = true;
         i += 1;
     }
@@ -71,8 +72,8 @@ pub fn between<'a>(
     let mut on = [false; DELEGATION_LIMIT];
     let mut i = 0;
     while i < n {
-        let s = bytes::wide(subjects[i]);
-        let a = bytes::wide(audiences[i]);
+        let s = wide(subjects[i]);
+        let a = wide(audiences[i]);
         on[i] = is_between(s, a, subject, audience);
         i += 1;
     }

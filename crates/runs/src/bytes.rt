@@ -8,12 +8,6 @@ ghost use Rattle.runs.specs.Bytes.{runLength, runAt, eqBytes, ltBytes};
 // The length of a key, and of a digest.
 pub const RUN_LENGTH: usize = 32;
 
-pub fn wide(x: u8) -> usize
-    ensures { λ r. ⌜ r ≡ x ⌝ }
-{
-    x as usize
-}
-
 // Whether the run at place i is the one given.
 pub fn same_at(bytes: &[u8], i: usize, run: &[u8]) -> bool
     requires { ⌜ runLength * i + runLength ≤ length (now bytes) ⌝ }

@@ -3,6 +3,7 @@
 use crate::bytes;
 use crate::bytes::RUN_LENGTH;
 use crate::table::LARGE_LIMIT;
+use places::wide;
 ghost use mathlib.Core.Path.{_≡_};
 ghost use mathlib.Core.Bool.{Bool, cond};
 ghost use mathlib.Core.List.{map};
@@ -41,7 +42,7 @@ pub fn choose(table: &[u8], limit: usize, n: usize, on: &[bool]) -> Chosen
         let b = table[start + j];
         let k = c.count;
         c.places[k] = b;
-        let i = bytes::wide(b);
+        let i = wide(b);
         c.count = k + one_if(on[i]);
         j += 1;
     }
@@ -55,7 +56,7 @@ pub fn put_runs<'a>(table: &'a [u8], places: &'a [u8], k: usize, out: &mut [u8])
 {
     let mut j = 0;
     while j < k {
-        let i = RUN_LENGTH * bytes::wide(places[j]);
+        let i = RUN_LENGTH * wide(places[j]);
         let a = RUN_LENGTH * j;
         bytes::put_item(&mut out[a..a + RUN_LENGTH], &table[i..i + RUN_LENGTH]);
         j += 1;
@@ -69,7 +70,7 @@ pub fn put_values<'a>(values: &'a [u8], places: &'a [u8], k: usize, out: &mut [u
 {
     let mut j = 0;
     while j < k {
-        let i = bytes::wide(places[j]);
+        let i = wide(places[j]);
         out[j] = values[i];
         j += 1;
     }

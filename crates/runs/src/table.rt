@@ -2,6 +2,7 @@
 // order of the runs, one byte each (specs/Table). A search halves the order; an insertion moves up the bytes of the order behind it.
 use crate::bytes;
 use crate::bytes::RUN_LENGTH;
+use places::wide;
 ghost use mathlib.Core.Path.{_≡_};
 ghost use Prim.Native.Nat.{_+_, _-_, _<_, _≤_};
 ghost use mathlib.Core.List.{_∷_};
@@ -36,7 +37,7 @@ fn rank(table: &[u8], limit: usize, n: usize, run: &[u8]) -> usize
     let mut high = n;
     while low < high {
         let mid = low + (high - low) / 2;
-        let i = bytes::wide(table[start + mid]);
+        let i = wide(table[start + mid]);
         if bytes::less_at(table, i, run) {
             low = mid + 1;
         } else {
@@ -53,7 +54,7 @@ pub fn find(table: &[u8], limit: usize, n: usize, run: &[u8]) -> usize
 {
     let p = rank(table, limit, n, run);
     if p < n {
-        let i = bytes::wide(table[RUN_LENGTH * limit + p]);
+        let i = wide(table[RUN_LENGTH * limit + p]);
         if bytes::same_at(table, i, run) {
             return i;
         }

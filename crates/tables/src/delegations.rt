@@ -2,6 +2,7 @@
 use keyline::limits::DELEGATION_LIMIT;
 use places::DelegationPlace;
 use places::KeyPlace;
+use places::wide;
 use runs::bytes;
 use runs::bytes::RUN_LENGTH;
 use runs::table;
@@ -54,7 +55,7 @@ pub fn key_at(column: &[u8], at: DelegationPlace) -> KeyPlace
 {
     let i = at.0;
     if i < column.len() {
-        return KeyPlace(bytes::wide(column[i]));
+        return KeyPlace(wide(column[i]));
     }
     KeyPlace(0)
 }

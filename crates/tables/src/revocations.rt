@@ -2,6 +2,7 @@
 use keyline::limits::REVOCATION_LIMIT;
 use places::KeyPlace;
 use places::RevocationPlace;
+use places::wide;
 use runs::bytes;
 use runs::bytes::RUN_LENGTH;
 use runs::table;
@@ -37,7 +38,7 @@ pub fn key_at(column: &[u8], at: RevocationPlace) -> KeyPlace
 {
     let i = at.0;
     if i < column.len() {
-        return KeyPlace(bytes::wide(column[i]));
+        return KeyPlace(wide(column[i]));
     }
     KeyPlace(0)
 }
