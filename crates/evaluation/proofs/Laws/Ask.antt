@@ -10,9 +10,9 @@ use lib.ListN.{getD}
 use Rattle.keyset.specs.Word.{bit}
 use Rattle.keyset.proofs.Laws.{bit-two}
 use Rattle.places.specs.Limits.{keyLimit, levelCount}
-use Rattle.rules.specs.Rules.{Admin, Node, StandingIs, is-revoked, is-unsupported, revoked, unsupported, Nobody, Positive, Effective, Answer, absent, level, Greatest, LiveCovered, LiveUncovered, Live, PositiveIs, EffectiveIs, ConveyedIs, Conveys, cap, plain, nothing}
+use Rattle.rules.specs.Rules.{Admin, Node, StandingIs, is-revoked, is-unsupported, revoked, unsupported, Nobody, Positive, Effective, Answer, absent, level, LiveCovered, LiveUncovered, Live, PositiveIs, EffectiveIs, ConveyedIs, Conveys, cap, plain, nothing}
 use Rattle.rules.proofs.Derivations.Monotone.{mono, stands-named}
-use Rattle.rules.proofs.Derivations.Answers.{answer-carry}
+use Rattle.rules.proofs.Derivations.Answers.{answer-carry, greatest-of}
 use Rattle.rules.proofs.Evaluation.LiveSet.{effective-exists}
 use Rattle.rules.specs.Rows.{levelOf}
 use Rattle.rules.proofs.Derivations.Rows.{self-answer, no-subject}
@@ -132,9 +132,6 @@ module _ (e : Facts) (grades : List ℕ) (K : Capped e grades) where
   from-absent : {P : ℕ → Type 0} → Answer P none → (l : ℕ) → P l → ⊥
   from-absent (absent a) = a
 
-  from-level : {P : ℕ → Type 0} {l : ℕ} → Answer P (some l) → Greatest P l
-  from-level (level g) = g
-
   min-suc : (p l : ℕ) → min (p + 1) (suc l) ≡ suc (min p l)
   min-suc p l = omega arith
 
@@ -162,7 +159,7 @@ module _ (e : Facts) (grades : List ℕ) (K : Capped e grades) where
           κ = q .κ;
           caps = q .caps;
           conveys = subst (λ (o : Option ℕ). Conveys (places e) (q .κ) d o) (sym (level-min (getD grades d 0) (getD (e .power) d 0) l (K .lives .rest d u)))
-              (plain l u (from-level (q .answer)));
+              (plain l u (greatest-of (q .answer)));
         }
 
 -- ---- standing

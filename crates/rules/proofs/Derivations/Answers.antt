@@ -1,7 +1,7 @@
 -- Levels as answers: two greatest levels are equal, and an answer about P is one about Q where each is under the other.
 -- `Under P Q`: what holds at a level by P holds by Q at that level or more. Every later comparison of two ways to stand is made in it.
 use Prim.Native.Nat.{ℕ, _≤_}
-use mathlib.Core.Option.{Option}
+use mathlib.Core.Option.{Option, some}
 use mathlib.Core.Path.{_≡_, refl}
 use native.Mathlib.Omega.{arith}
 use Rattle.rules.specs.Rules.{Greatest, Answer, absent, level}
@@ -15,6 +15,10 @@ answer-unique (absent a) (absent b) = refl
 answer-unique (absent a) (level b) = absurd (a _ (b .holds))
 answer-unique (level a) (absent b) = absurd (b _ (a .holds))
 answer-unique (level a) (level b) = rw (greatest-unique a b)
+
+-- The level that is answered is the greatest.
+pub greatest-of : {P : ℕ → Type 0} {l : ℕ} → Answer P (some l) → Greatest P l
+greatest-of (level g) = g
 
 -- P at l or more
 pub record AtLeast (P : ℕ → Type 0) (l : ℕ) : Type 0 where

@@ -6,13 +6,13 @@ use Prim.Native.Nat.{ℕ, min}
 use mathlib.Core.HLevel.{×-discrete}
 use mathlib.Core.List.{List, List-discrete}
 use mathlib.Core.Logic.{_↔_}
-use mathlib.Core.Option.{Option, some, discrete}
+use mathlib.Core.Option.{Option, discrete}
 use mathlib.Core.Path.{_≡_, refl, sym, _∙_, subst, ap}
 use native.Mathlib.Decide.{ℕ-discrete}
 use native.Mathlib.Omega.{arith}
-use Rattle.rules.specs.Rules.{Finite, Admin, Shape, Graph, D1, D3, Nobody, Positive, Answer, Live, Caps, Effective, Conveys, StandingIs, Standing, PositiveIs, EffectiveIs, ConveyedIs, Member, MembersAre, Greatest, level, DelegationTo, Node, Closure, ClosureRev, Revocations, Store, graph, RevocationOf}
+use Rattle.rules.specs.Rules.{Finite, Admin, Shape, Graph, D1, D3, Nobody, Positive, Answer, Live, Caps, Effective, Conveys, StandingIs, Standing, PositiveIs, EffectiveIs, ConveyedIs, Member, MembersAre, level, DelegationTo, Node, Closure, ClosureRev, Revocations, Store, graph, RevocationOf}
 use Rattle.rules.specs.OneClosure.{ListedIn, RestsOnClosure, JustClosure}
-use Rattle.rules.proofs.Derivations.Answers.{answer-unique}
+use Rattle.rules.proofs.Derivations.Answers.{answer-unique, greatest-of}
 use Rattle.rules.proofs.Derivations.Simulate.{Sim, simulate}
 use Rattle.rules.proofs.Evaluation.Listing.{lists-same}
 use Rattle.rules.proofs.Evaluation.Settled.{conveyed-settled, standing-settled}
@@ -97,9 +97,6 @@ module _ {W : Shape} {G H : Graph W} {s : W .Key} (w : Within G H s) (same : (x 
     power = λ p. ap (W .power) (u _ _ p);
     revokes = λ {k} {d} {e} p r. (k, g _ _ refl, subst (λ x. H .Revokes k x) (u _ _ p) (w .revokes (v _ _ p) r));
   }
-
-greatest-of : {P : ℕ → Type 0} {l : ℕ} → Answer P (some l) → Greatest P l
-greatest-of (level g) = g
 
 -- Two stores with one closure of s.
 module _ {W : Shape} {G H : Graph W} {s : W .Key} (fin : Finite G) (there : Within G H s) (back : Within H G s) where
