@@ -1,6 +1,6 @@
 -- `search::widest::relax_edges` meets its contract. The loop's invariant: the pair's delegations from next on are relaxed, and next is one of the pair's, or 0.
 use borrow.Author.Needs.{needs}
-use Prim.Native.Nat.{ℕ, _≤_, _<_, _-_, suc}
+use Prim.Native.Nat.{ℕ, _≤_, _<_, _-_}
 use mathlib.Core.Path.{_≡_, sym, subst, _∙_}
 use native.Mathlib.Omega.{arith}
 use denote.Ref.{now}
@@ -9,6 +9,7 @@ use Rattle.places.specs.Limits.{delegationLimit}
 use Rattle.search.specs.Graph.{Graph, graph}
 use Rattle.search.specs.Index.{Last}
 use Rattle.search.specs.Walk.{Grown, Led}
+use Rattle.search.proofs.Laws.Above.{one-less}
 use Rattle.search.proofs.Laws.Chain.{Chaining, chaining-start, chaining-place, chaining-more, chaining-less}
 use Rattle.search.proofs.widest.relax_edges.Statement.{statement}
 use Rattle.search.proofs.widest.relax_edges.Tie as tie
@@ -22,9 +23,6 @@ abbrev μ-loop : tie.MeasureT-loop
 
 abbrev gr : tie.Start Inv-loop μ-loop → Graph
 gr c = graph (now (c .args .issuer)) (now (c .args .audience)) (now (c .args .subject)) (now (c .args .grades)) (c .args .exclude)
-
-one-less : (n : ℕ) → 0 < n → n ≡ suc (n - 1)
-one-less n h = omega arith
 
 place : (c : tie.In-loop Inv-loop μ-loop) → c .before .loop .next - 1 < delegationLimit
 place c =

@@ -1,6 +1,6 @@
 -- `search::widest::widest` meets its contract. The loop's invariant is the walk's (Laws/Walk.antt); a turn expands a key or ends a level.
 use borrow.Author.Needs.{needs}
-use Prim.Native.Nat.{ℕ, _≤_, _<_, _+_, _*_, _-_, suc, min}
+use Prim.Native.Nat.{ℕ, _≤_, _+_, _*_, _-_, suc, min}
 use mathlib.Core.Path.{_≡_, refl, sym, ap, _∙_, subst}
 use native.Mathlib.Omega.{arith}
 use denote.Ref.{now}
@@ -10,6 +10,7 @@ use Rattle.keyset.proofs.Laws.{size-le}
 use Rattle.places.specs.Limits.{keyLimit, levelCount}
 use Rattle.search.specs.Graph.{Graph, graph}
 use Rattle.search.specs.Walk.{In}
+use Rattle.search.proofs.Laws.Above.{one-less}
 use Rattle.search.proofs.Laws.Sets.{is-in, not-in}
 use Rattle.search.proofs.Laws.Grow.{grown-set}
 use Rattle.search.proofs.Laws.Walk.{Walk, walk-start, row-excluded, pending, walk-bottom, walk-down, walk-settle, settles-more, walk-end}
@@ -26,9 +27,6 @@ abbrev μ-loop : tie.MeasureT-loop
 
 abbrev gr : tie.Start Inv-loop μ-loop → Graph
 gr c = graph (now (c .args .issuer)) (now (c .args .audience)) (now (c .args .subject)) (now (c .args .grades)) (c .args .exclude)
-
-one-less : (n : ℕ) → 0 < n → n ≡ suc (n - 1)
-one-less n h = omega arith
 
 -- the walk, at the level that is under way
 here : (c : tie.After-minus Inv-loop μ-loop)
