@@ -15,8 +15,9 @@ use Rattle.rules.proofs.Stores.Places.{positive-bytes, effective-bytes, caps-by
 use Rattle.runs.specs.Bytes.{Bytes, eqBytes, runAt}
 use Rattle.runs.specs.Members.{has, place}
 use Rattle.runs.specs.Table.{runs}
+use Rattle.runs.proofs.BoolLaws.{or, or-right}
 use Rattle.runs.proofs.ByteLaws.{eq-refl}
-use Rattle.runs.proofs.MemberLaws.{has-append, or}
+use Rattle.runs.proofs.MemberLaws.{has-append}
 use Rattle.tables.specs.Committed.{Delegation, Committed, delegationKeys, keysOf, keysIn}
 use Rattle.tables.specs.Store.{committed, GoodStore}
 use Rattle.tables.specs.declared.store.Store.{Store}
@@ -27,10 +28,6 @@ use Rattle.keyline_memory.specs.Facts.{FactsOf}
 use Rattle.keyline_memory.proofs.Places.{InUse, keyAt, table}
 
 -- ## Keys of held delegations
-or-right : (a b : Bool) → b ≡ true → or a b ≡ true
-or-right true b e = refl
-or-right false b e = e
-
 or-left : (a b : Bool) → a ≡ true → or a b ≡ true
 or-left true b e = refl
 or-left false b e = let z : _≡_ {A = ℕ} 0 1 = cc in absurd (omega arith)

@@ -1,7 +1,7 @@
 -- From chosen places to the statement of a call that lists: the closure (`closure-answer`) and, in Membering, the members.
 use Prim.Native.Nat.{ℕ, _+_, _*_, _<_}
 use mathlib.Core.Path.{_≡_, refl, sym, _∙_, ap, subst}
-use mathlib.Core.Bool.{Bool, true, false, cond, false≢true}
+use mathlib.Core.Bool.{Bool, true, false, cond}
 use mathlib.Core.List.{List, [], _∷_, map, _++_}
 use borrow.Author.Tests.{eqb-true, eq-eqb, ltb-true, ltb-false, lt-ltb}
 use lib.ListN.{length, getD, length-map}
@@ -15,6 +15,7 @@ use Rattle.runs.specs.Bytes.{Bytes, runAt, runLength, joined}
 use Rattle.runs.specs.Table.{order}
 use Rattle.runs.specs.Chosen.{picked, Chose}
 use Rattle.runs.specs.declared.list.Chosen.{Chosen}
+use Rattle.runs.proofs.BoolLaws.{both-true}
 use Rattle.search.specs.Sets.{Word}
 use Rattle.tables.specs.Committed.{Delegation, Revocation, Committed}
 use Rattle.tables.specs.Store.{committed, GoodStore}
@@ -62,10 +63,6 @@ module _ (c : Committed) (key out : Bytes) (ds : List Delegation) (vs : List Rev
           (says.answered long is (ltb-false (length out) need u)))
 
 -- ## The chosen places
-both-true : (t u : Bool) → cond t u false ≡ true → (t ≡ true) × (u ≡ true)
-both-true true u e = (refl, e)
-both-true false u e = absurd (false≢true e)
-
 module _ (s : Store) (g : GoodStore s) (e : Facts) (f : FactsOf s e) (i : ℕ) (h : i < s .keys .count) (nodes : ℕ) (word : Word nodes (Node (places e) i))
     (dels revs : List Bool) (in-dels : InNodes (s .delegations .subject) (s .delegations .count) nodes dels)
     (in-revs : Naming (e .target) (s .revocations .count) dels (s .delegations .count) revs) (a b : Chosen)

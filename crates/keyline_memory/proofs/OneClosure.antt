@@ -23,6 +23,7 @@ use Rattle.tables.specs.Committed.{Delegation, Revocation, Committed, noDelegat
 use Rattle.keyline_memory.specs.Graph.{graph, store}
 use Rattle.lists.specs.declared.write.Listed.{Listed}
 use Rattle.keyline_memory.specs.OneClosure.{Apart, OneClosure, SameAnswers}
+use Rattle.runs.proofs.BoolLaws.{both-true}
 use Rattle.runs.proofs.ByteLaws.{eq-true, eq-same}
 use Rattle.runs.proofs.AscentLaws.{lt-not-both}
 use Rattle.keyline_memory.proofs.Equality.{finite}
@@ -52,10 +53,6 @@ module _ (c : Committed) (apart : Apart c) where
 
 -- ## The lists that need no evaluation
 -- what is listed in A is listed in B, where each delegation or revocation that is meant is in both
-both-true : (a b : Bool) → cond a b false ≡ true → (a ≡ true) × (b ≡ true)
-both-true true b h = (refl, h)
-both-true false b h = let z : _≡_ {A = ℕ} 0 1 = cc in absurd (omega arith)
-
 between : (A B : Committed) (s x y : Bytes) → ((d : Delegation) → DelegationTo (graph A) s x d → DelegationTo (graph B) s x d)
     → Item (λ g. g .digest) (fromTo s x) (A .delegations) y → Item (λ g. g .digest) (fromTo s x) (B .delegations) y
 between A B s x y f i =

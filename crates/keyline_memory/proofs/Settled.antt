@@ -15,6 +15,7 @@ use Rattle.rules.proofs.Evaluation.Settled.{effective-settled, conveyed-settled
 use Rattle.rules.proofs.Evaluation.Listing.{lists-same}
 use Rattle.runs.proofs.AscentLaws.{lt-not-both}
 use Rattle.keyline.specs.Power.{rankOf}
+use Rattle.keyline.proofs.Levels.{same-rank}
 use Rattle.keyline.specs.declared.power.Power.{Power}
 use Rattle.keyline.specs.declared.power.Power.the-variants.{Relay, Read, Edit, Admin}
 use Rattle.runs.specs.Bytes.{Bytes, Less}
@@ -28,10 +29,9 @@ use Rattle.keyline_memory.specs.declared.answers.Liveness.{Liveness}
 use Rattle.keyline_memory.specs.declared.answers.Stood.{Stood}
 use Rattle.lists.specs.declared.write.Listed.{Listed}
 use Rattle.lists.specs.declared.write.BothListed.{BothListed}
-use Rattle.keyline_memory.proofs.Equality.{rank-same}
 
 pub level-settled : {o p : Option ℕ} {r q : Powered} → o ≡ p → LevelIs o r → LevelIs p q → r ≡ q
-level-settled e (level a) (level b) = let h : rankOf a ≡ rankOf b = cc in rw (rank-same a b h)
+level-settled e (level a) (level b) = let h : rankOf a ≡ rankOf b = cc in rw (same-rank a b h)
 level-settled e (level a) no-level = let z : _≡_ {A = ℕ} 0 1 = cc in absurd (omega arith)
 level-settled e no-level (level b) = let z : _≡_ {A = ℕ} 0 1 = cc in absurd (omega arith)
 level-settled e no-level no-level = refl

@@ -7,12 +7,13 @@ use lib.ListN.{length, take, drop, getD, length-map, length-drop, drop-of-length
 use lib.Seq.{length-take-le, getD-take}
 use borrow.Rule.Slice.PartMut.{putMid}
 use Rattle.keyline.specs.Bytes.{front}
+use Rattle.keyline.proofs.Fronts.{length-front}
 use Rattle.runs.specs.Bytes.{Bytes, runLength, runAt, joined}
 use Rattle.runs.specs.Chosen.{chosen}
 use Rattle.runs.specs.declared.list.Chosen.{Chosen}
 use Rattle.runs.proofs.ByteLaws.{length-run}
 use Rattle.runs.proofs.PartLaws.{map-at}
-use Rattle.runs.proofs.ListLaws.{joined-long, front-mid, front-long}
+use Rattle.runs.proofs.ListLaws.{joined-long, front-mid}
 use Rattle.lists.specs.Marks.{chosenRuns, Stand}
 
 module _ (t : Bytes) (c : Chosen) (s : Stand t c) where
@@ -36,7 +37,7 @@ pub behind : (o p q : Bytes) (n m : ℕ) (x y : Bytes) → length p ≡ n → le
 unfolding front
 behind o p q n m x y ep eq h ex ey =
     let k : n + m - n ≡ m = omega arith in
-    let l : length x ≡ length o = ap (λ (b : Bytes). length b) ex ∙ front-long p o (omega arith) in
+    let l : length x ≡ length o = ap (λ (b : Bytes). length b) ex ∙ length-front p o (omega arith) in
     let r : length (take (n + m - n) (drop n x)) ≡ m = length-take-le (n + m - n) (drop n x) (simp length-drop (omega arith)) ∙ k in
     let z : drop (length q) (take (n + m - n) (drop n x)) ≡ [] = drop-of-length-le (take (n + m - n) (drop n x)) {i = length q} (omega arith) in
     let w : y ≡ q = ey ∙ rw z (append-nil q) in

@@ -61,6 +61,10 @@ pub cited-part : (t : Bytes) (i k : ℕ) (b : Bool) → k ≡ cond b runLength 0
 cited-part t i k true e = rw e (run-part t i)
 cited-part t i k false e = let z : runLength * i + k - runLength * i ≡ 0 = omega arith in rw z
 
+pub cited-le : (b : Bool) (k : ℕ) → k ≡ cond b runLength 0 → k ≤ runLength
+cited-le true k e = omega arith
+cited-le false k e = omega arith
+
 module _ (k c : Bytes) (at : DelegationPlace) (row : DelegationRow) (f : RowFits k c at row) where
   citation-long : (b : Bool) → length (cond b (runAt c (at .0)) []) ≡ cond b runLength 0
   citation-long true = length-run c (at .0) (f .citation)

@@ -11,6 +11,7 @@ use lib.Dec.{ltb, eqb}
 use borrow.Author.Tests.{eqb-true}
 use Rattle.keyline.specs.Limits.{keyLength, digestLength, keyLimit, delegationLimit, revocationLimit}
 use Rattle.keyline.specs.Power.{rankOf}
+use Rattle.keyline.proofs.Levels.{same-rank}
 use Rattle.keyline.specs.Delegation.{decoded}
 use Rattle.keyline.specs.declared.power.Power.{Power}
 use Rattle.keyline.specs.declared.delegation.Decoded.{Decoded}
@@ -19,16 +20,17 @@ use Rattle.keyline.specs.declared.refusal.Refusal.{Refusal}
 use Rattle.keyline.specs.declared.refusal.Refusal.the-variants.{FullDelegations, FullRevocations, FullKeys}
 use Rattle.runs.specs.Bytes.{Bytes, eqBytes}
 use Rattle.runs.specs.Members.{has, fresh, Distinct}
+use Rattle.runs.proofs.BoolLaws.{both-true}
 use Rattle.runs.proofs.ByteLaws.{eq-true}
 use Rattle.runs.proofs.MemberLaws.{false-true}
 use Rattle.tables.specs.Committed.{Delegation, Revocation, Committed, noDelegation, noRevocation, delegationDigests, revocationDigests, delegationWith, revocationWith, delegationKeys, revocationKeys, keys, sameContent, sameParts, sameRevoked}
 use Rattle.tables.specs.Insertion.{Seen, seenDelegation, seenRevocation, heldAnswer, keysAnswer, acceptedAnswer, payloadAnswer, delegationFrom, delegationCheck, delegationAnswer, delegationAdded, withDelegation, revocationFrom, revocationSettled, revocationCheck, revocationAnswer, revocationAdded, withRevocation, readDelegation, settled}
 use Rattle.tables.specs.declared.answer.Answer.{Answer}
 use Rattle.tables.specs.declared.answer.Answer.the-variants.{Added, NotAdded, Refused}
+use Rattle.tables.proofs.MadeLaws.{delegation-made, revocation-made}
 use Rattle.tables.proofs.AnswerLaws.{delegation-added, revocation-added}
 use Rattle.tables.proofs.ContentLaws.{content-parts, revoked-same}
 use Rattle.tables.proofs.PayloadLaws.{parts}
-use Rattle.keyline_memory.proofs.Equality.{rank-same}
 use Rattle.order.specs.AnyOrder.{Certificate, delegation, revocation, answerTo, heldAfter, isRefused}
 use Rattle.order.proofs.Inserting.{found, more-distinct, Within, del-key, rev-key, key-of, keys-few}
 
@@ -72,23 +74,12 @@ pub data Entry (c : Committed) : Certificate → Committed → Type 0 where
       → length (keys c) + length (fresh (keys c) (revocationKeys r)) ≤ keyLimit → Entry c (revocation d i x) (withRevocation c r)
 
 -- ---- equal content under one digest is one certificate
-both-true : (a b : Bool) → cond a b false ≡ true → (a ≡ true) × (b ≡ true)
-both-true true b h = (refl, h)
-both-true false b h = absurd (false-true h)
-
 one-delegation : (g h : Delegation) → g .digest ≡ h .digest → g .issuer ≡ h .issuer → g .audience ≡ h .audience → g .subject ≡ h .subject → g .power ≡ h .power
     → g .citation ≡ h .citation → g ≡ h
-one-delegation g h a b c d e f = go a b c d e f
-  where
-    go : {d d′ i i′ a a′ s s′ c c′ : Bytes} {p p′ : Power} → d ≡ d′ → i ≡ i′ → a ≡ a′ → s ≡ s′ → p ≡ p′ → c ≡ c′
-        → _≡_ {A = Delegation} (record { digest = d; issuer = i; audience = a; subject = s; power = p; citation = c }) (record { digest = d′; issuer = i′; audience = a′; subject = s′; power = p′; citation = c′ })
-    go a b c d e f = cc
+one-delegation g h a b c d e f = delegation-made a b c d e f
 
 one-revocation : (r q : Revocation) → r .digest ≡ q .digest → r .issuer ≡ q .issuer → r .revoked ≡ q .revoked → r ≡ q
-one-revocation r q a b c = go a b c
-  where
-    go : {d d′ i i′ x x′ : Bytes} → d ≡ d′ → i ≡ i′ → x ≡ x′ → _≡_ {A = Revocation} (record { digest = d; issuer = i; revoked = x }) (record { digest = d′; issuer = i′; revoked = x′ })
-    go a b c = cc
+one-revocation r q a b c = revocation-made a b c
 
 same-one : (g h : Delegation) → g .digest ≡ h .digest → length (g .audience) ≡ length (h .audience) → length (g .subject) ≡ length (h .subject) → sameContent g h ≡ true → g ≡ h
 unfolding sameParts
@@ -98,7 +89,7 @@ same-one g h q l m e =
     let b = both-true (eqBytes (g .audience) (h .audience)) _ (a .1) in
     let c = both-true (eqBytes (g .subject) (h .subject)) _ (b .1) in
     let d = both-true (eqb (rankOf (g .power)) (rankOf (h .power))) _ (c .1) in
-    one-delegation g h q (eq-true _ _ (a .0)) (eq-true _ _ (b .0)) (eq-true _ _ (c .0)) (rank-same _ _ (eqb-true _ _ (d .0))) (eq-true _ _ (d .1))
+    one-delegation g h q (eq-true _ _ (a .0)) (eq-true _ _ (b .0)) (eq-true _ _ (c .0)) (same-rank _ _ (eqb-true _ _ (d .0))) (eq-true _ _ (d .1))
 
 -- ---- what NotAdded means
 not-refused : {r : Refusal} → Refused r ≡ NotAdded → ⊥

@@ -10,8 +10,9 @@ use lib.ListN.{length, getD, length-append}
 use Rattle.runs.specs.Bytes.{Bytes, eqBytes}
 use Rattle.runs.specs.Members.{has, place, fresh, Distinct}
 use Rattle.tables.specs.Committed.{Delegation, Revocation, Committed, delegationKeys, revocationKeys, keysOf, keysIn, keys}
+use Rattle.runs.proofs.BoolLaws.{or, or-cases}
 use Rattle.runs.proofs.ByteLaws.{eq-true}
-use Rattle.runs.proofs.MemberLaws.{or, mem-has, has-mem, has-not, has-append, distinct-snoc, distinct-head, distinct-tail, within-le, false-true}
+use Rattle.runs.proofs.MemberLaws.{mem-has, has-mem, has-not, has-append, distinct-snoc, distinct-head, distinct-tail, within-le, false-true}
 use Rattle.runs.proofs.FreshLaws.{fresh-has, fresh-distinct, all-has, all-distinct}
 
 -- ## Lists by digest
@@ -22,10 +23,6 @@ map-append f (x ∷ l) m = ap (λ (k : List Bytes). f x ∷ k) (map-append f l m
 pub map-long : {A : Type 0} (f : A → Bytes) (l : List A) → length (map f l) ≡ length l
 map-long f [] = refl
 map-long f (x ∷ l) = ap suc (map-long f l)
-
-or-cases : (a b : Bool) → or a b ≡ true → (a ≡ true) ⊎ (b ≡ true)
-or-cases true b h = inl refl
-or-cases false b h = inr h
 
 true-or : (a b : Bool) → (a ≡ true) ⊎ (b ≡ true) → or a b ≡ true
 true-or true b h = refl

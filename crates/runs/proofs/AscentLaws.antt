@@ -13,8 +13,9 @@ use Rattle.rules.proofs.Evaluation.Listing.{lists-same}
 use Rattle.runs.specs.Bytes.{Bytes, Less, eqBytes, ltBytes}
 use Rattle.runs.specs.Members.{has, SameRuns}
 use Rattle.runs.specs.Sorted.{inserted, sortedInto, sorted}
+use Rattle.runs.proofs.BoolLaws.{or, or-cases}
 use Rattle.runs.proofs.ByteLaws.{eq-true}
-use Rattle.runs.proofs.MemberLaws.{or, mem-has, has-mem, false-true}
+use Rattle.runs.proofs.MemberLaws.{mem-has, has-mem, false-true}
 
 -- ---- the order
 step : ℕ → ℕ → Bool → Bool
@@ -102,10 +103,6 @@ inserted-has x (y ∷ l) k = go (ltBytes x y) (eqBytes y x) refl (inserted-has x
     go true u e f = refl
     go false true e f = same (eqBytes x k) (eqBytes y k) (has l k) (λ p. rw (eq-true y x e) p)
     go false false e f = ap (λ (t : Bool). or (eqBytes y k) t) f ∙ swap (eqBytes x k) (eqBytes y k) (has l k)
-
-or-cases : (a b : Bool) → or a b ≡ true → (a ≡ true) ⊎ (b ≡ true)
-or-cases true b h = inl refl
-or-cases false b h = inr h
 
 pub inserted-ascending : (x : Bytes) (l : List Bytes) → Ascending Less l → Ascending Less (inserted x l)
 unfolding inserted

@@ -8,8 +8,9 @@ use native.Mathlib.Nat.{not-suc-le-zero}
 use lib.ListN.{length}
 use Rattle.runs.specs.Bytes.{Bytes, eqBytes}
 use Rattle.runs.specs.Members.{has, fresh, Distinct, SameRuns}
+use Rattle.runs.proofs.BoolLaws.{or}
 use Rattle.runs.proofs.ByteLaws.{eq-true}
-use Rattle.runs.proofs.MemberLaws.{or, has-append, has-not, distinct-snoc, same-long}
+use Rattle.runs.proofs.MemberLaws.{has-append, has-not, distinct-snoc, same-long}
 
 snoc-same : (l m : List Bytes) (x : Bytes) → SameRuns l m → SameRuns (l ++ (x ∷ [])) (m ++ (x ∷ []))
 snoc-same l m x f k = has-append l (x ∷ []) k ∙ rw (f k) (sym (has-append m (x ∷ []) k))

@@ -1,3 +1,4 @@
+pub mod BoolLaws
 pub mod ByteLaws
 pub mod MemberLaws
 pub mod FreshLaws

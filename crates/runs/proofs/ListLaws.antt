@@ -1,6 +1,6 @@
 -- Laws of lists in buffers: what is put at the front; runs one behind the other; places picked from an order; and that the runs at
 -- marked places, in the table's order, are the ascending list of the marked runs. Rests on TableLaws.
-use Prim.Native.Nat.{ℕ, zero, suc, _+_, _-_, _*_, _≤_, _<_, zero-le, suc-le-suc}
+use Prim.Native.Nat.{ℕ, zero, suc, _+_, _-_, _*_, _<_, zero-le, suc-le-suc}
 use mathlib.Core.Path.{_≡_, refl, sym, ap, _∙_, subst}
 use mathlib.Core.Bool.{Bool, true, false, cond}
 use mathlib.Core.Logic.{_⊎_, inl, inr}
@@ -24,14 +24,6 @@ use Rattle.runs.proofs.AscentLaws.{lt-not-both, sorted-has, sorted-list
 use Rattle.runs.proofs.TableLaws.{ascending, runs-at, runs-long}
 
 -- ---- at the front of a buffer
-pub front-none : (d : Bytes) → front [] d ≡ d
-unfolding front
-front-none d = refl
-
-pub front-long : (p d : Bytes) → length p ≤ length d → length (front p d) ≡ length d
-unfolding front
-front-long p d h = simp (length-append, length-drop) (omega arith)
-
 -- one byte behind what stands at the front
 pub front-set : (p d : Bytes) (j v : ℕ) → length p ≡ j → j < length d → set (front p d) j v ≡ front (p ++ (v ∷ [])) d
 unfolding front

@@ -1,4 +1,4 @@
--- Which runs stand in a list, and where; lists with no run twice, and how many such a list can have. Rests on ByteLaws.
+-- Which runs stand in a list, and where; lists with no run twice, and how many such a list can have. Rests on BoolLaws and ByteLaws.
 use Prim.Native.Nat.{ℕ, zero, suc, _+_, _≤_, _<_, zero-le, suc-le-suc}
 use mathlib.Core.Path.{_≡_, refl, sym, ap, _∙_}
 use mathlib.Core.Bool.{Bool, true, false, cond}
@@ -12,10 +12,8 @@ use lib.Dec.{ltb}
 use borrow.Author.Tests.{ltb-true, ltb-false}
 use Rattle.runs.specs.Bytes.{Bytes, eqBytes}
 use Rattle.runs.specs.Members.{place, has, Distinct, SameRuns}
+use Rattle.runs.proofs.BoolLaws.{or, or-right}
 use Rattle.runs.proofs.ByteLaws.{eq-true, eq-refl, eq-false}
-
-abbrev pub or : Bool → Bool → Bool
-or a b = cond a true b
 
 -- ---- the first place
 pub place-le : (l : List Bytes) (k : Bytes) → place l k ≤ length l
@@ -177,10 +175,6 @@ less-has x k (y ∷ l) n h = go (eqBytes y x) (eqBytes y k) refl refl (less-has 
     go false true a b f e = rw b
     go false false a b f e = rw b (f e)
 
-later : (a b : Bool) → b ≡ true → or a b ≡ true
-later true b h = refl
-later false b h = h
-
 -- distinct runs that all stand in m are no more than m
 pub within-le : (l m : List Bytes) → Distinct l → ((k : Bytes) → has l k ≡ true → has m k ≡ true) → length l ≤ length m
 within-le [] m d f = zero-le
@@ -193,7 +187,7 @@ within-le (x ∷ l) m d f =
     apart k h = eq-false x k (λ e. let z : _≡_ {A = Bool} true false = sym h ∙ (rw (← e) (distinct-head x l d)) in let y : _≡_ {A = ℕ} 0 1 = cc in absurd (omega arith))
 
     further : (k : Bytes) → has l k ≡ true → has (x ∷ l) k ≡ true
-    further k h = has-append (x ∷ []) l k ∙ later (has (x ∷ []) k) (has l k) h
+    further k h = has-append (x ∷ []) l k ∙ or-right (has (x ∷ []) k) (has l k) h
 
 pub same-long : (l m : List Bytes) → Distinct l → Distinct m → SameRuns l m → length l ≡ length m
 same-long l m d e f = le-antisymm (within-le l m d (λ k h. sym (f k) ∙ h)) (within-le m l e (λ k h. f k ∙ h))

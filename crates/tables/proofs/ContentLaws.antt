@@ -16,6 +16,7 @@ use Rattle.keyline.specs.declared.power.Level.the-variants.{Is, Unknown}
 use Rattle.keyline.proofs.Payload.Parts.{parts}
 use Rattle.keyline.specs.declared.delegation.Decoded.the-variants as reading
 use Rattle.runs.specs.Bytes.{Bytes, eqBytes}
+use Rattle.runs.proofs.BoolLaws.{both-true}
 use Rattle.runs.proofs.ByteLaws.{eq-true, eq-refl}
 use Rattle.tables.specs.Committed.{Delegation, Revocation, sameContent, sameRevoked, sameParts, payloadOf}
 use Rattle.tables.specs.Insertion.{delegationFrom}
@@ -56,12 +57,6 @@ rank-power r h = go (eqb r 0) (eqb r 1) (eqb r 2) refl refl refl
         let b = eqb-false r 1 q in
         let c = eqb-false r 2 s in
         omega arith
-
-pub rank-below : (p : Power) → rankOf p < levelCount
-rank-below Relay = omega arith
-rank-below Read = omega arith
-rank-below Edit = omega arith
-rank-below Admin = omega arith
 
 -- the byte and the rank say the same
 byte-rank : (p q : Power) → eqb (byteOf p) (byteOf q) ≡ eqb (rankOf p) (rankOf q)
@@ -126,10 +121,6 @@ pub payload-back : (d i p : Bytes) (w : Power) (t : Bool) → decoded p ≡ read
 payload-back d i p w t e = parts p w t e .whole
 
 -- ---- equal content, as document 01 says it
-both-true : (a b : Bool) → cond a b false ≡ true → (a ≡ true) × (b ≡ true)
-both-true true b h = (refl, h)
-both-true false b h = let z : _≡_ {A = ℕ} 0 1 = cc in absurd (omega arith)
-
 pub content-same : (g h : Delegation) → sameContent g h ≡ true → (g .issuer ≡ h .issuer) × (payloadOf g ≡ payloadOf h)
 unfolding sameContent
 content-same g h e = let p = both-true _ _ e in (eq-true _ _ (p .0), eq-true _ _ (p .1))

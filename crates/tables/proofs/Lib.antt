@@ -1,3 +1,4 @@
+pub mod MadeLaws
 pub mod ContentLaws
 pub mod PayloadLaws
 pub mod ViewLaws

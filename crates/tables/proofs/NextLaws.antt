@@ -9,11 +9,12 @@ use lib.Seq.{getD-set-same, getD-set-other, getD-at}
 use lib.Dec.{eqb}
 use borrow.Author.Tests.{eqb-true, eqb-false}
 use Rattle.keyline.specs.Power.{rankOf}
-use Rattle.keyline.specs.declared.power.Power.{Power}
+use Rattle.keyline.proofs.Levels.{rank-below}
 use Rattle.runs.specs.Bytes.{Bytes, runLength, runAt}
 use Rattle.runs.specs.Members.{has, fresh, SameRuns}
 use Rattle.runs.specs.Table.{tabulate, runs, GoodRuns, Pushed}
-use Rattle.runs.proofs.MemberLaws.{or, has-append}
+use Rattle.runs.proofs.BoolLaws.{or}
+use Rattle.runs.proofs.MemberLaws.{has-append}
 use Rattle.runs.proofs.FreshLaws.{fresh-has}
 use Rattle.runs.proofs.PartLaws.{tabulate-long, tabulate-snoc, tabulate-same}
 use Rattle.runs.proofs.TableLaws.{runs-long, runs-at, kept-at}
@@ -26,7 +27,8 @@ use Rattle.tables.specs.Store.{committed, GoodStore, GoodDelegations, Go
 use Rattle.tables.specs.declared.delegations.Delegations.{Delegations}
 use Rattle.tables.specs.declared.revocations.Revocations.{Revocations}
 use Rattle.tables.specs.declared.store.Store.{Store}
-use Rattle.tables.proofs.ContentLaws.{power-rank, rank-below}
+use Rattle.tables.proofs.ContentLaws.{power-rank}
+use Rattle.tables.proofs.MadeLaws.{delegation-made, revocation-made, committed-made}
 use Rattle.tables.proofs.KeyLaws.{WithKeys, Stands}
 
 -- ---- columns
@@ -134,16 +136,6 @@ pub record RevocationPushed (s u : Store) (a : Revocation) : Type 0 where
   pub delegations : u .delegations ≡ s .delegations
   pub version : u .version ≡ s .version + 1
 
-made : {d e i j a b s t c k : Bytes} {p q : Power} → d ≡ e → i ≡ j → a ≡ b → s ≡ t → p ≡ q → c ≡ k
-    → _≡_ {A = Delegation} (record { digest = d; issuer = i; audience = a; subject = s; power = p; citation = c }) (record { digest = e; issuer = j; audience = b; subject = t; power = q; citation = k })
-made x y z u v w = cc
-
-made-revocation : {d e i j a b : Bytes} → d ≡ e → i ≡ j → a ≡ b → _≡_ {A = Revocation} (record { digest = d; issuer = i; revoked = a }) (record { digest = e; issuer = j; revoked = b })
-made-revocation x y z = cc
-
-committed-made : {d e : List Delegation} {r q : List Revocation} → d ≡ e → r ≡ q → _≡_ {A = Committed} (record { delegations = d; revocations = r }) (record { delegations = e; revocations = q })
-committed-made x y = cc
-
 -- the digest that was pushed
 pushed-digest : (limit : ℕ) (t u : Bytes) (n : ℕ) (x : Bytes) → Pushed limit t u n x → runAt u n ≡ x
 pushed-digest limit t u n x p =
@@ -170,13 +162,13 @@ module _ (s u : Store) (g : GoodStore s) (ks : List Bytes) (w : WithKeys (s .key
       → tabulate (delegationAt (u .keys .table) (u .delegations)) (u .delegations .count) ≡ tabulate (delegationAt (s .keys .table) (s .delegations)) (s .delegations .count)
   delegations-kept e =
       rw e (tabulate-same (delegationAt (u .keys .table) (s .delegations)) (delegationAt (s .keys .table) (s .delegations)) (s .delegations .count)
-      (λ i h. made refl (key-kept _ (g .delegations .issuer .held i h)) (key-kept _ (g .delegations .audience .held i h)) (key-kept _ (g .delegations .subject .held i h)) refl refl))
+      (λ i h. delegation-made refl (key-kept _ (g .delegations .issuer .held i h)) (key-kept _ (g .delegations .audience .held i h)) (key-kept _ (g .delegations .subject .held i h)) refl refl))
 
   revocations-kept : u .revocations ≡ s .revocations
       → tabulate (revocationAt (u .keys .table) (u .revocations)) (u .revocations .count) ≡ tabulate (revocationAt (s .keys .table) (s .revocations)) (s .revocations .count)
   revocations-kept e =
       rw e (tabulate-same (revocationAt (u .keys .table) (s .revocations)) (revocationAt (s .keys .table) (s .revocations)) (s .revocations .count)
-      (λ i h. made-revocation refl (key-kept _ (g .revocations .issuer .held i h)) refl))
+      (λ i h. revocation-made refl (key-kept _ (g .revocations .issuer .held i h)) refl))
 
   good-delegations : u .delegations ≡ s .delegations → GoodDelegations (u .keys .count) (u .delegations)
   good-delegations e =
@@ -214,7 +206,7 @@ module _ (s u : Store) (g : GoodStore s) (a : Delegation) (h : DelegationPushed 
   row-before i p =
       let d = g .delegations in
       let w = h .keys in
-      made (kept-at (s .delegations .digests) (u .delegations .digests) n (n + 1) (a .digest ∷ []) (h .digests .held) i p)
+      delegation-made (kept-at (s .delegations .digests) (u .delegations .digests) n (n + 1) (a .digest ∷ []) (h .digests .held) i p)
       (column-before s u g (delegationKeys a) w delegationLimit n (a .issuer) _ _ (d .issuer) (h .issuer) (h .room) i p)
       (column-before s u g (delegationKeys a) w delegationLimit n (a .audience) _ _ (d .audience) (h .audience) (h .room) i p)
       (column-before s u g (delegationKeys a) w delegationLimit n (a .subject) _ _ (d .subject) (h .subject) (h .room) i p)
@@ -228,7 +220,7 @@ module _ (s u : Store) (g : GoodStore s) (a : Delegation) (h : DelegationPushed 
       let r = h .room in
       let l = d .power .long in
       let m = d .cited in
-      made (pushed-digest delegationLimit (s .delegations .digests) (u .delegations .digests) n (a .digest) (h .digests))
+      delegation-made (pushed-digest delegationLimit (s .delegations .digests) (u .delegations .digests) n (a .digest) (h .digests))
       (column-here s u g (delegationKeys a) w delegationLimit n (a .issuer) _ _ (d .issuer) (h .issuer) (h .room))
       (column-here s u g (delegationKeys a) w delegationLimit n (a .audience) _ _ (d .audience) (h .audience) (h .room))
       (column-here s u g (delegationKeys a) w delegationLimit n (a .subject) _ _ (d .subject) (h .subject) (h .room))
@@ -267,14 +259,14 @@ module _ (s u : Store) (g : GoodStore s) (a : Revocation) (h : RevocationPushed 
   revoked-before : (i : ℕ) → i < s .revocations .count → revocationAt (u .keys .table) (u .revocations) i ≡ revocationAt (s .keys .table) (s .revocations) i
   revoked-before i p =
       let n = s .revocations .count in
-      made-revocation (kept-at (s .revocations .digests) (u .revocations .digests) n (n + 1) (a .digest ∷ []) (h .digests .held) i p)
+      revocation-made (kept-at (s .revocations .digests) (u .revocations .digests) n (n + 1) (a .digest ∷ []) (h .digests .held) i p)
       (column-before s u g (revocationKeys a) (h .keys) revocationLimit n (a .issuer) _ _ (g .revocations .issuer) (h .issuer) (h .room) i p)
       (h .before i p)
 
   revoked-here : revocationAt (u .keys .table) (u .revocations) (s .revocations .count) ≡ a
   revoked-here =
       let n = s .revocations .count in
-      made-revocation (pushed-digest revocationLimit (s .revocations .digests) (u .revocations .digests) n (a .digest) (h .digests))
+      revocation-made (pushed-digest revocationLimit (s .revocations .digests) (u .revocations .digests) n (a .digest) (h .digests))
       (column-here s u g (revocationKeys a) (h .keys) revocationLimit n (a .issuer) _ _ (g .revocations .issuer) (h .issuer) (h .room))
       (h .revoked)
 

@@ -1,23 +1,18 @@
 -- Both fits are tested, and both parts written.
-use Prim.Native.Nat.{ℕ, _+_, _≤_}
+use Prim.Native.Nat.{_+_}
 use mathlib.Core.Path.{_≡_, refl, sym, ap, _∙_}
-use mathlib.Core.Bool.{Bool, true, false, cond}
 use native.Mathlib.Omega.{arith}
 use lib.ListN.{length}
 use denote.Ref.{now}
-use Rattle.runs.specs.Bytes.{runLength, runAt}
+use Rattle.runs.specs.Bytes.{runAt}
 use Rattle.runs.proofs.ByteLaws.{length-run}
 use Rattle.keyline.specs.Limits.{keyLength, payloadLength}
 use Rattle.tables.specs.Committed.{payloadOf}
 use Rattle.tables.specs.Look.{rowThere}
-use Rattle.lookups.proofs.LookLaws.{payload-long, first-small, second-small, both-fit}
+use Rattle.lookups.proofs.LookLaws.{cited-le, payload-long, first-small, second-small, both-fit}
 use borrow.Author.Needs.{needs}
 use Rattle.lookups.proofs.put.put_delegation.Statement.{statement}
 use Rattle.lookups.proofs.put.put_delegation.Tie as tie
-
-cited-le : (b : Bool) (k : ℕ) → k ≡ cond b runLength 0 → k ≤ runLength
-cited-le true k e = omega arith
-cited-le false k e = omega arith
 
 returns : tie.Need-returns
 returns c =

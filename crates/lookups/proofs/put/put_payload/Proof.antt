@@ -1,19 +1,14 @@
 -- The writer is handed the parts, and has room.
-use Prim.Native.Nat.{ℕ, _+_, _-_, _*_, _≤_}
-use mathlib.Core.Path.{_≡_, refl, sym, ap, _∙_}
-use mathlib.Core.Bool.{Bool, true, false, cond}
+use Prim.Native.Nat.{_+_, _-_, _*_}
+use mathlib.Core.Path.{refl, sym, ap, _∙_}
 use native.Mathlib.Omega.{arith}
 use lib.ListN.{length}
 use denote.Ref.{now}
-use Rattle.runs.specs.Bytes.{Bytes, runLength, runAt}
-use Rattle.lookups.proofs.LookLaws.{run-part, cited-part, payload-put}
+use Rattle.runs.specs.Bytes.{Bytes, runAt}
+use Rattle.lookups.proofs.LookLaws.{run-part, cited-part, cited-le, payload-put}
 use borrow.Author.Needs.{needs}
 use Rattle.lookups.proofs.put.put_payload.Statement.{statement}
 use Rattle.lookups.proofs.put.put_payload.Tie as tie
-
-cited-le : (b : Bool) (k : ℕ) → k ≡ cond b runLength 0 → k ≤ runLength
-cited-le true k e = omega arith
-cited-le false k e = omega arith
 
 mul-a : tie.Need-mul-a
 mul-a c = search needs

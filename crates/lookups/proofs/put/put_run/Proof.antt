@@ -1,15 +1,16 @@
 -- The front of the buffer comes back as the run.
 use Prim.Native.Nat.{ℕ, _+_, _-_, _*_}
-use mathlib.Core.Path.{_≡_, refl, sym, ap, _∙_}
+use mathlib.Core.Path.{_≡_, refl, ap, _∙_}
 use mathlib.Core.List.{[], _++_}
 use native.Mathlib.Omega.{arith}
 use lib.ListN.{length}
 use denote.Ref.{now}
 use borrow.Rule.Slice.PartMut.{putMid}
 use Rattle.keyline.specs.Bytes.{front}
+use Rattle.keyline.proofs.Fronts.{front-none}
 use Rattle.runs.specs.Bytes.{Bytes, runLength, runAt}
 use Rattle.runs.proofs.ByteLaws.{length-run}
-use Rattle.runs.proofs.ListLaws.{front-none, front-mid}
+use Rattle.runs.proofs.ListLaws.{front-mid}
 use Rattle.lookups.proofs.LookLaws.{run-part}
 use borrow.Author.Needs.{needs}
 use Rattle.lookups.proofs.put.put_run.Statement.{statement}
@@ -52,7 +53,7 @@ returns c =
     let i = s .args .i in
     let o = now (s .args .out) in
     let y : c .before .before .put-item .last .0 ≡ runAt t i = c .before .before .put-item .ensures ∙ run-part t i in
-    rw y (front-mid [] o o (runAt t i) 0 runLength refl (length-run t i (s .pre .0)) (sym (front-none o)))
+    rw y (front-mid [] o o (runAt t i) 0 runLength refl (length-run t i (s .pre .0)) (front-none o))
 
 pub put-run-spec : {M : Type 1} → statement M
 put-run-spec =

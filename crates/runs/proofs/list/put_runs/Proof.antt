@@ -9,11 +9,12 @@ use lib.Seq.{length-take-le, getD-take}
 use borrow.Rule.Slice.PartMut.{putMid}
 use denote.Ref.{now}
 use Rattle.keyline.specs.Bytes.{front}
+use Rattle.keyline.proofs.Fronts.{front-none, length-front}
 use Rattle.runs.specs.Bytes.{Bytes, runLength, runAt, joined}
 use Rattle.runs.specs.Chosen.{Listable}
 use Rattle.runs.proofs.ByteLaws.{length-run}
 use Rattle.runs.proofs.PartLaws.{map-at}
-use Rattle.runs.proofs.ListLaws.{front-none, front-long, front-mid, joined-none, joined-snoc, joined-long, map-more}
+use Rattle.runs.proofs.ListLaws.{front-mid, joined-none, joined-snoc, joined-long, map-more}
 use Rattle.runs.proofs.list.put_runs.Statement.{statement}
 use Rattle.runs.proofs.list.put_runs.Tie as tie
 
@@ -46,7 +47,7 @@ abbrev μ-loop : tie.MeasureT-loop
 μ-loop table places k out₀ j₀ out j = k - j
 
 loop-holds : tie.Need-loop-holds Inv-loop μ-loop
-loop-holds c = (omega arith, refl, rw joined-none (sym (front-none _)))
+loop-holds c = (omega arith, refl, rw joined-none (front-none _))
 
 shared-slice-read-wide : tie.Need-shared-slice-read-wide Inv-loop μ-loop
 shared-slice-read-wide c = let w = c .before .before .before .before .before .before .pre .enough in omega arith
@@ -112,7 +113,7 @@ loop-again c =
     let y : c .before .before .put-item .last .0 ≡ runAt t w = c .before .before .put-item .ensures ∙ part-run t w in
     let e = one-more t ps (s .args .k) o (s .pre) (l .out) (c .before .before .put-item .last .0) w (l .j) (runLength * l .j + runLength - runLength * l .j) h (c .before .before .before .before .before .wide .ensures) (omega arith) y (l .inv .2) in
     let f = first-long t ps (s .args .k) o (s .pre) (l .j + 1) (omega arith) in
-    (omega arith, ap (λ (b : Bytes). length b) e ∙ front-long (joined (map (runAt t) (take (l .j + 1) ps))) o (omega arith), e)
+    (omega arith, ap (λ (b : Bytes). length b) e ∙ length-front (joined (map (runAt t) (take (l .j + 1) ps))) o (omega arith), e)
 
 same-length : tie.Need-same-length Inv-loop μ-loop
 same-length c = c .before .loop .inv .1

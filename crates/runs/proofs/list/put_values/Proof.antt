@@ -8,9 +8,10 @@ use lib.ListN.{length, take, getD, set, length-set, length-map}
 use lib.Seq.{length-take-le}
 use denote.Ref.{now}
 use Rattle.keyline.specs.Bytes.{front}
+use Rattle.keyline.proofs.Fronts.{front-none}
 use Rattle.runs.specs.Bytes.{Bytes}
 use Rattle.runs.specs.Chosen.{valuesAt}
-use Rattle.runs.proofs.ListLaws.{front-none, front-set, map-more}
+use Rattle.runs.proofs.ListLaws.{front-set, map-more}
 use Rattle.runs.proofs.list.put_values.Statement.{statement}
 use Rattle.runs.proofs.list.put_values.Tie as tie
 
@@ -26,7 +27,7 @@ abbrev μ-loop : tie.MeasureT-loop
 μ-loop values places k out₀ j₀ out j = k - j
 
 loop-holds : tie.Need-loop-holds Inv-loop μ-loop
-loop-holds c = (omega arith, refl, sym (front-none _))
+loop-holds c = (omega arith, refl, front-none _)
 
 shared-slice-read-wide : tie.Need-shared-slice-read-wide Inv-loop μ-loop
 shared-slice-read-wide c = let w = c .before .before .before .before .before .before .pre .enough in omega arith

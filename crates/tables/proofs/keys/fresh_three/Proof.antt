@@ -9,7 +9,7 @@ use denote.Ref.{now}
 use Rattle.runs.specs.Bytes.{Bytes, eqBytes}
 use Rattle.runs.specs.Members.{has, fresh}
 use Rattle.runs.specs.Table.{runs}
-use Rattle.runs.proofs.MemberLaws.{or}
+use Rattle.runs.proofs.BoolLaws.{or}
 use Rattle.runs.proofs.FreshLaws.{fresh-three}
 use borrow.Author.Needs.{needs}
 use Rattle.tables.proofs.keys.fresh_three.Statement.{statement}
