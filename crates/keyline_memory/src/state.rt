@@ -103,7 +103,7 @@ impl State {
     // The issuer and the payload of the delegation with that digest, in two lent buffers.
     pub fn delegation(self, digest: &[u8], issuer: &mut [u8], payload: &mut [u8]) -> Looked
         requires { ⌜ GoodState self ⌝ }
-        ensures { λ r. ⌜ (r ≡ look.delegationAnswer (heldIn self) (now (digest .entry)) (length (now (issuer .entry))) (length (now (payload .entry)))) × (now (issuer .exit) ≡ partBuffer r (delegationWith (heldIn self) (now (digest .entry)) .issuer) (now (issuer .entry))) × (now (payload .exit) ≡ partBuffer r (payloadOf (delegationWith (heldIn self) (now (digest .entry)))) (now (payload .entry))) ⌝ }
+        ensures { λ r. ⌜ (r ≡ look.delegationLookup (heldIn self) (now (digest .entry)) (length (now (issuer .entry))) (length (now (payload .entry)))) × (now (issuer .exit) ≡ partBuffer r (delegationWith (heldIn self) (now (digest .entry)) .issuer) (now (issuer .entry))) × (now (payload .exit) ≡ partBuffer r (payloadOf (delegationWith (heldIn self) (now (digest .entry)))) (now (payload .entry))) ⌝ }
     {
         lookups::lookup::delegation(self.store, digest, issuer, payload)
     }
@@ -111,7 +111,7 @@ impl State {
     // The issuer and the revoked digest of the revocation with that digest, in two lent buffers.
     pub fn revocation(self, digest: &[u8], issuer: &mut [u8], revoked: &mut [u8]) -> Looked
         requires { ⌜ GoodState self ⌝ }
-        ensures { λ r. ⌜ (r ≡ look.revocationAnswer (heldIn self) (now (digest .entry)) (length (now (issuer .entry))) (length (now (revoked .entry)))) × (now (issuer .exit) ≡ partBuffer r (revocationWith (heldIn self) (now (digest .entry)) .issuer) (now (issuer .entry))) × (now (revoked .exit) ≡ partBuffer r (revocationWith (heldIn self) (now (digest .entry)) .revoked) (now (revoked .entry))) ⌝ }
+        ensures { λ r. ⌜ (r ≡ look.revocationLookup (heldIn self) (now (digest .entry)) (length (now (issuer .entry))) (length (now (revoked .entry)))) × (now (issuer .exit) ≡ partBuffer r (revocationWith (heldIn self) (now (digest .entry)) .issuer) (now (issuer .entry))) × (now (revoked .exit) ≡ partBuffer r (revocationWith (heldIn self) (now (digest .entry)) .revoked) (now (revoked .entry))) ⌝ }
     {
         lookups::lookup::revocation(self.store, digest, issuer, revoked)
     }

@@ -37,9 +37,9 @@ unfoldable pub lookAnswer : Bool → Bytes → Looked → Looked
 lookAnswer held d there = cond (eqb (length d) digestLength) (cond held there Absent) (Refused (BadLength (length d)))
 
 -- issuer and payload of a delegation
-abbrev pub delegationAnswer : Committed → Bytes → ℕ → ℕ → Looked
-delegationAnswer c d n m = lookAnswer (has (delegationDigests c) d) d (partsAnswer (delegationWith c d .issuer) (payloadOf (delegationWith c d)) n m)
+abbrev pub delegationLookup : Committed → Bytes → ℕ → ℕ → Looked
+delegationLookup c d n m = lookAnswer (has (delegationDigests c) d) d (partsAnswer (delegationWith c d .issuer) (payloadOf (delegationWith c d)) n m)
 
 -- issuer and revoked digest of a revocation
-abbrev pub revocationAnswer : Committed → Bytes → ℕ → ℕ → Looked
-revocationAnswer c d n m = lookAnswer (has (revocationDigests c) d) d (partsAnswer (revocationWith c d .issuer) (revocationWith c d .revoked) n m)
+abbrev pub revocationLookup : Committed → Bytes → ℕ → ℕ → Looked
+revocationLookup c d n m = lookAnswer (has (revocationDigests c) d) d (partsAnswer (revocationWith c d .issuer) (revocationWith c d .revoked) n m)

@@ -7,7 +7,7 @@ ghost use mathlib.Core.Path.{_≡_};
 ghost use lib.ListN.{length};
 ghost use Rattle.tables.specs.Committed.{delegationDigests, revocationDigests, delegationWith, revocationWith, payloadOf};
 ghost use Rattle.tables.specs.Store.{committed, GoodStore};
-ghost use Rattle.lookups.specs.Lookup.{containsAnswer, delegationAnswer, revocationAnswer, partBuffer};
+ghost use Rattle.lookups.specs.Lookup.{containsAnswer, delegationLookup, revocationLookup, partBuffer};
 
 pub enum Contained {
     Is(bool),
@@ -41,7 +41,7 @@ pub fn contains_revocation(s: Store, digest: &[u8]) -> Contained
 // The issuer and the payload of the delegation with that digest, in two lent buffers.
 pub fn delegation(s: Store, digest: &[u8], issuer: &mut [u8], payload: &mut [u8]) -> Looked
     requires { ⌜ GoodStore s ⌝ }
-    ensures { λ r. ⌜ (r ≡ delegationAnswer (committed s) (now (digest .entry)) (length (now (issuer .entry))) (length (now (payload .entry)))) × (now (issuer .exit) ≡ partBuffer r (delegationWith (committed s) (now (digest .entry)) .issuer) (now (issuer .entry))) × (now (payload .exit) ≡ partBuffer r (payloadOf (delegationWith (committed s) (now (digest .entry)))) (now (payload .entry))) ⌝ }
+    ensures { λ r. ⌜ (r ≡ delegationLookup (committed s) (now (digest .entry)) (length (now (issuer .entry))) (length (now (payload .entry)))) × (now (issuer .exit) ≡ partBuffer r (delegationWith (committed s) (now (digest .entry)) .issuer) (now (issuer .entry))) × (now (payload .exit) ≡ partBuffer r (payloadOf (delegationWith (committed s) (now (digest .entry)))) (now (payload .entry))) ⌝ }
 {
     if digest.len() != DIGEST_LENGTH {
         return Looked::Refused(Refusal::BadLength(digest.len()));
@@ -72,7 +72,7 @@ pub fn delegation(s: Store, digest: &[u8], issuer: &mut [u8], payload: &mut [u8]
 // The issuer and the revoked digest of the revocation with that digest, in two lent buffers.
 pub fn revocation(s: Store, digest: &[u8], issuer: &mut [u8], revoked: &mut [u8]) -> Looked
     requires { ⌜ GoodStore s ⌝ }
-    ensures { λ r. ⌜ (r ≡ revocationAnswer (committed s) (now (digest .entry)) (length (now (issuer .entry))) (length (now (revoked .entry)))) × (now (issuer .exit) ≡ partBuffer r (revocationWith (committed s) (now (digest .entry)) .issuer) (now (issuer .entry))) × (now (revoked .exit) ≡ partBuffer r (revocationWith (committed s) (now (digest .entry)) .revoked) (now (revoked .entry))) ⌝ }
+    ensures { λ r. ⌜ (r ≡ revocationLookup (committed s) (now (digest .entry)) (length (now (issuer .entry))) (length (now (revoked .entry)))) × (now (issuer .exit) ≡ partBuffer r (revocationWith (committed s) (now (digest .entry)) .issuer) (now (issuer .entry))) × (now (revoked .exit) ≡ partBuffer r (revocationWith (committed s) (now (digest .entry)) .revoked) (now (revoked .entry))) ⌝ }
 {
     if digest.len() != DIGEST_LENGTH {
         return Looked::Refused(Refusal::BadLength(digest.len()));

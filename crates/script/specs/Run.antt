@@ -53,9 +53,9 @@ pub data StateAnswers (c : Committed) (x y p q : Bytes) : OfState → Reply → 
   is-empty : StateAnswers c x y p q state.IsEmpty (reply.flagged (eqb (lengthOf c) 0)) p q
   contains-delegation : StateAnswers c x y p q state.ContainsDelegation (reply.contained (containsAnswer (delegationDigests c) x)) p q
   contains-revocation : StateAnswers c x y p q state.ContainsRevocation (reply.contained (containsAnswer (revocationDigests c) x)) p q
-  delegation : {r : Looked} → r ≡ look.delegationAnswer c x (length p) (length q)
+  delegation : {r : Looked} → r ≡ look.delegationLookup c x (length p) (length q)
       → StateAnswers c x y p q state.Delegation (reply.looked r) (partBuffer r (delegationWith c x .issuer) p) (partBuffer r (payloadOf (delegationWith c x)) q)
-  revocation : {r : Looked} → r ≡ look.revocationAnswer c x (length p) (length q)
+  revocation : {r : Looked} → r ≡ look.revocationLookup c x (length p) (length q)
       → StateAnswers c x y p q state.Revocation (reply.looked r) (partBuffer r (revocationWith c x .issuer) p) (partBuffer r (revocationWith c x .revoked) q)
   subjects : {r : Listed} → r ≡ listAnswer (subjectsOf c) (length p) → StateAnswers c x y p q state.Subjects (reply.listed r) (listBuffer r (subjectsOf c) p) q
   revocations-of : {r : Listed} → r ≡ lengthFirst x (listAnswer (revocationsOf c x) (length p))

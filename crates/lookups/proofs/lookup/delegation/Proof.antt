@@ -14,7 +14,7 @@ use Rattle.tables.specs.Look.{rowThere}
 use Rattle.tables.specs.Store.{committed}
 use Rattle.tables.specs.declared.delegations.DelegationRow.{DelegationRow}
 use Rattle.tables.proofs.ViewLaws.{delegation-found, delegation-is, row-fits}
-use Rattle.lookups.specs.Lookup.{partsAnswer, partBuffer, lookAnswer, delegationAnswer}
+use Rattle.lookups.specs.Lookup.{partsAnswer, partBuffer, lookAnswer, delegationLookup}
 use Rattle.lookups.proofs.LookLaws.{look-bad, look-absent, look-there}
 use borrow.Author.Needs.{needs}
 use Rattle.lookups.proofs.lookup.delegation.Statement.{statement}
