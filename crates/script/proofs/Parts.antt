@@ -14,7 +14,7 @@ use Rattle.script.specs.Request.{otherLimit, headerLength, requestOf, fi
 use Rattle.script.specs.declared.request.Request.{Request}
 use Rattle.script.specs.declared.operation.Change.{Change}
 use Rattle.script.proofs.Reading.{first-lent, second-lent, third-lent}
-use Rattle.script.specs.Run.{roomIn, zeros, inPlace, StateAnswers, StateReplied, replied, EvaluatedAnswers, EvaluatedReplied, told, Changes, ChangeReplied, made}
+use Rattle.script.specs.Run.{roomIn, zeros, inPlace, StateAnswers, StateReplied, state-replied, EvaluatedAnswers, EvaluatedReplied, evaluated-replied, Changes, ChangeReplied, change-replied}
 use Rattle.tables.specs.Committed.{Committed}
 use Rattle.script.specs.declared.operation.OfState.{OfState}
 use Rattle.script.specs.declared.operation.OfEvaluated.{OfEvaluated}
@@ -59,14 +59,14 @@ pub state-back : (c : Committed) (x y o p q q′ o₂ : Bytes) (what : OfState) 
     → o₂ ≡ inPlace r (roomIn n (putMid headLength (headLength + n - headLength) o p)) q′ → StateReplied c x y (roomIn n o) q what o₂
 state-back c x y o p q q′ o₂ what r n a l h e =
     subst (λ z. StateReplied c x y (roomIn n o) q what z) (sym (e ∙ ap (λ z. inPlace r z q′) (room-back o p n l h)))
-    (replied (subst (λ z. StateAnswers c x y z q what r p q′) (room-lent o n) a))
+    (state-replied (subst (λ z. StateAnswers c x y z q what r p q′) (room-lent o n) a))
 
 pub evaluated-back : (c : Committed) (x y o p q q′ o₂ : Bytes) (what : OfEvaluated) (r : Reply) (n : ℕ)
     → EvaluatedAnswers c x y (midOf headLength (headLength + n - headLength) o) q what r p q′ → length p ≡ n → headLength + n ≤ length o
     → o₂ ≡ inPlace r (roomIn n (putMid headLength (headLength + n - headLength) o p)) q′ → EvaluatedReplied c x y (roomIn n o) q what o₂
 evaluated-back c x y o p q q′ o₂ what r n a l h e =
     subst (λ z. EvaluatedReplied c x y (roomIn n o) q what z) (sym (e ∙ ap (λ z. inPlace r z q′) (room-back o p n l h)))
-    (told (subst (λ z. EvaluatedAnswers c x y z q what r p q′) (room-lent o n) a))
+    (evaluated-replied (subst (λ z. EvaluatedAnswers c x y z q what r p q′) (room-lent o n) a))
 
 -- the second room as it begins
 pub first-zeros : (k : ℕ) → k ≤ otherLimit → midOf 0 (k - 0) (zeros otherLimit) ≡ zeros k
@@ -102,7 +102,7 @@ module _ (q : Request) (s : Bytes) (e : q ≡ requestOf s) where
       → ChangeReplied c (firstOf s) (secondOf s) (thirdOf s) p z what d o
   change-asked {c} {d} {o} {p} {z} {what} {r} t i =
       subst (λ b. ChangeReplied c (firstOf s) (secondOf s) (thirdOf s) p z what d b) (sym i)
-      (made
+      (change-replied
       (subst (λ x. Changes c x (secondOf s) (thirdOf s) what r d) (first-lent q s e)
       (subst (λ y. Changes c (midOf headerLength (headerLength + q .first - headerLength) s) y (thirdOf s) what r d) (second-lent q s e)
       (subst (λ w. Changes c (midOf headerLength (headerLength + q .first - headerLength) s) (midOf (headerLength + q .first) (headerLength + q .first + q .second - (headerLength + q .first)) s) w what r d) (third-lent q s e) t))))

@@ -13,7 +13,7 @@ use Rattle.keyline_memory.proofs.Settled as calls
 use Rattle.script.specs.Operation.{isKnown}
 use Rattle.script.specs.Request.{requestOf, Whole, Script, ended, next, NoRequest, header, unknown, arguments, Malformed, here, later}
 use Rattle.script.specs.Reply as reply
-use Rattle.script.specs.Run.{Changes, StateAnswers, EvaluatedAnswers, inPlace, StateReplied, replied, EvaluatedReplied, told, ChangeReplied, made, Replied, Runs, RanAs}
+use Rattle.script.specs.Run.{Changes, StateAnswers, EvaluatedAnswers, inPlace, StateReplied, state-replied, EvaluatedReplied, evaluated-replied, ChangeReplied, change-replied, Replied, Runs, RanAs}
 use Rattle.script.specs.Run as run
 use Rattle.script.specs.declared.operation.Operation.{Operation}
 use Rattle.script.specs.declared.operation.OfState.{OfState}
@@ -71,10 +71,10 @@ pub record SameStep (d d′ f f′ : Committed) (o o′ : Bytes) : Type 0 where
 
 pub step : {c e : Committed} {x y z p q : Bytes} {w : Operation} {d d′ f f′ : Committed} {o o′ : Bytes}
     → Replied c e x y z p q w d f o → Replied c e x y z p q w d′ f′ o′ → SameStep d d′ f f′ o o′
-step (run.changed (made a)) (run.changed (made b)) = let s = change a b in record { set = s .set; evaluated = refl; out = rw (s .reply) }
+step (run.changed (change-replied a)) (run.changed (change-replied b)) = let s = change a b in record { set = s .set; evaluated = refl; out = rw (s .reply) }
 step run.evaluate run.evaluate = record { set = refl; evaluated = refl; out = refl }
-step (run.of-state (replied a)) (run.of-state (replied b)) = record { set = refl; evaluated = refl; out = in-place-same (of-state a b) }
-step (run.of-evaluated (told a)) (run.of-evaluated (told b)) = record { set = refl; evaluated = refl; out = in-place-same (of-evaluated a b) }
+step (run.of-state (state-replied a)) (run.of-state (state-replied b)) = record { set = refl; evaluated = refl; out = in-place-same (of-state a b) }
+step (run.of-evaluated (evaluated-replied a)) (run.of-evaluated (evaluated-replied b)) = record { set = refl; evaluated = refl; out = in-place-same (of-evaluated a b) }
 
 -- ## A script
 moved : {d d′ f f′ : Committed} {s o t : Bytes} → d ≡ d′ → f ≡ f′ → Runs d′ f′ s o t → Runs d f s o t

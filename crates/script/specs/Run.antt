@@ -87,13 +87,13 @@ abbrev pub inPlace : Reply → Bytes → Bytes → Bytes
 inPlace r p q = headOf r ++ p ++ q
 
 pub data StateReplied (c : Committed) (x y p q : Bytes) (what : OfState) : Bytes → Type 0 where
-  replied : {r : Reply} {p′ q′ : Bytes} → StateAnswers c x y p q what r p′ q′ → StateReplied c x y p q what (inPlace r p′ q′)
+  state-replied : {r : Reply} {p′ q′ : Bytes} → StateAnswers c x y p q what r p′ q′ → StateReplied c x y p q what (inPlace r p′ q′)
 
 pub data EvaluatedReplied (e : Committed) (x y p q : Bytes) (what : OfEvaluated) : Bytes → Type 0 where
-  told : {r : Reply} {p′ q′ : Bytes} → EvaluatedAnswers e x y p q what r p′ q′ → EvaluatedReplied e x y p q what (inPlace r p′ q′)
+  evaluated-replied : {r : Reply} {p′ q′ : Bytes} → EvaluatedAnswers e x y p q what r p′ q′ → EvaluatedReplied e x y p q what (inPlace r p′ q′)
 
 pub data ChangeReplied (c : Committed) (x y z p q : Bytes) (what : Change) : Committed → Bytes → Type 0 where
-  made : {r : Reply} {d : Committed} → Changes c x y z what r d → ChangeReplied c x y z p q what d (inPlace r p q)
+  change-replied : {r : Reply} {d : Committed} → Changes c x y z what r d → ChangeReplied c x y z p q what d (inPlace r p q)
 
 -- One request: c, e, the operation, the arguments and the rooms; then the set and the evaluated set afterwards, and the reply's bytes. The
 -- first room begins as the caller left it, the second as zeros.
