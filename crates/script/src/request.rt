@@ -63,7 +63,7 @@ pub fn read(script: &[u8]) -> Request
     }
 }
 
-pub fn front(script: &[u8]) -> Step
+pub fn next_step(script: &[u8]) -> Step
     requires { ⌜ 0 < length (now script) ⌝ }
     ensures { λ r. ⌜ StepOf (now (script .entry)) r ⌝ }
 {
@@ -83,7 +83,7 @@ pub fn front(script: &[u8]) -> Step
 }
 
 // The next request of a script whose rest is well-formed.
-pub fn next(script: &[u8], room: usize) -> Request
+pub fn next_request(script: &[u8], room: usize) -> Request
     requires { ⌜ Script (now script) room × (0 < length (now script)) ⌝ }
     ensures { λ r. ⌜ NextOf (now (script .entry)) room r ⌝ }
 {

@@ -37,7 +37,7 @@ fn measure(script: &[u8]) -> Measured
     let mut at = 0;
     let mut n = 0;
     while at < script.len() {
-        match request::front(&script[at..]) {
+        match request::next_step(&script[at..]) {
             Step::Whole(length, needs) => {
                 at += length;
                 n += needs;
@@ -57,7 +57,7 @@ fn perform(script: &[u8], answers: &mut [u8])
     let mut at = 0;
     let mut done = 0;
     while at < script.len() {
-        let q = request::next(&script[at..], answers.len() - done);
+        let q = request::next_request(&script[at..], answers.len() - done);
         let start = at;
         let from = done;
         at = start + HEADER + q.first + q.second + q.third;

@@ -17,38 +17,38 @@ abbrev μ-loop : tie.MeasureT-loop
 loop-holds : tie.Need-loop-holds Inv-loop μ-loop
 loop-holds c = start (now (c .before .args .script))
 
-sub-front : tie.Need-sub-front Inv-loop μ-loop
-sub-front c = search needs
+sub-next-step : tie.Need-sub-next-step Inv-loop μ-loop
+sub-next-step c = search needs
 
-part-front-start : tie.Need-part-front-start Inv-loop μ-loop
-part-front-start c = search needs
+part-next-step-start : tie.Need-part-next-step-start Inv-loop μ-loop
+part-next-step-start c = search needs
 
-part-front-end : tie.Need-part-front-end Inv-loop μ-loop
-part-front-end c = search needs
+part-next-step-end : tie.Need-part-next-step-end Inv-loop μ-loop
+part-next-step-end c = search needs
 
-front-requires : tie.Need-front-requires Inv-loop μ-loop
-front-requires c κs = search needs
+next-step-requires : tie.Need-next-step-requires Inv-loop μ-loop
+next-step-requires c κs = search needs
 
 enum-known-length : tie.Need-enum-known-length Inv-loop μ-loop
 enum-known-length c = search needs
 
 add-at : tie.Need-add-at Inv-loop μ-loop
-add-at c = let v = c .before .before .before .before .before .before .loop .inv .within in let u = c .before .before .before .before .before .before .loop .inv .few in let f = step-facts (told (now (c .before .before .before .before .before .before .before .before .args .script)) (c .before .before .before .before .before .before .loop .at) (c .before .before .before .before .before .before .loop .inv .within) (c .before .before .before .front .ensures) (c .before .length .given .1)) in let a = f .within in let b = f .some in let d = f .few in let z = length-drop (c .before .before .before .before .before .before .loop .at) (now (c .before .before .before .before .before .before .before .before .args .script)) in let y = c .before .before .before .before .before .before .before .before .pre in omega arith
+add-at c = let v = c .before .before .before .before .before .before .loop .inv .within in let u = c .before .before .before .before .before .before .loop .inv .few in let f = step-facts (told (now (c .before .before .before .before .before .before .before .before .args .script)) (c .before .before .before .before .before .before .loop .at) (c .before .before .before .before .before .before .loop .inv .within) (c .before .before .before .next-step .ensures) (c .before .length .given .1)) in let a = f .within in let b = f .some in let d = f .few in let z = length-drop (c .before .before .before .before .before .before .loop .at) (now (c .before .before .before .before .before .before .before .before .args .script)) in let y = c .before .before .before .before .before .before .before .before .pre in omega arith
 
 add-n : tie.Need-add-n Inv-loop μ-loop
-add-n c = let v = c .before .before .before .before .before .before .loop .inv .within in let u = c .before .before .before .before .before .before .loop .inv .few in let f = step-facts (told (now (c .before .before .before .before .before .before .before .before .args .script)) (c .before .before .before .before .before .before .loop .at) (c .before .before .before .before .before .before .loop .inv .within) (c .before .before .before .front .ensures) (c .before .length .given .1)) in let a = f .within in let b = f .some in let d = f .few in let z = length-drop (c .before .before .before .before .before .before .loop .at) (now (c .before .before .before .before .before .before .before .before .args .script)) in let y = c .before .before .before .before .before .before .before .before .pre in omega arith
+add-n c = let v = c .before .before .before .before .before .before .loop .inv .within in let u = c .before .before .before .before .before .before .loop .inv .few in let f = step-facts (told (now (c .before .before .before .before .before .before .before .before .args .script)) (c .before .before .before .before .before .before .loop .at) (c .before .before .before .before .before .before .loop .inv .within) (c .before .before .before .next-step .ensures) (c .before .length .given .1)) in let a = f .within in let b = f .some in let d = f .few in let z = length-drop (c .before .before .before .before .before .before .loop .at) (now (c .before .before .before .before .before .before .before .before .args .script)) in let y = c .before .before .before .before .before .before .before .before .pre in omega arith
 
 loop-less : tie.Need-loop-less Inv-loop μ-loop
-loop-less c = let v = c .before .before .before .before .before .before .loop .inv .within in let u = c .before .before .before .before .before .before .loop .inv .few in let f = step-facts (told (now (c .before .before .before .before .before .before .before .before .args .script)) (c .before .before .before .before .before .before .loop .at) (c .before .before .before .before .before .before .loop .inv .within) (c .before .before .before .front .ensures) (c .before .length .given .1)) in let a = f .within in let b = f .some in let d = f .few in let z = length-drop (c .before .before .before .before .before .before .loop .at) (now (c .before .before .before .before .before .before .before .before .args .script)) in let y = c .before .before .before .before .before .before .before .before .pre in omega arith
+loop-less c = let v = c .before .before .before .before .before .before .loop .inv .within in let u = c .before .before .before .before .before .before .loop .inv .few in let f = step-facts (told (now (c .before .before .before .before .before .before .before .before .args .script)) (c .before .before .before .before .before .before .loop .at) (c .before .before .before .before .before .before .loop .inv .within) (c .before .before .before .next-step .ensures) (c .before .length .given .1)) in let a = f .within in let b = f .some in let d = f .few in let z = length-drop (c .before .before .before .before .before .before .loop .at) (now (c .before .before .before .before .before .before .before .before .args .script)) in let y = c .before .before .before .before .before .before .before .before .pre in omega arith
 
 loop-again : tie.Need-loop-again Inv-loop μ-loop
-loop-again c = go-on (c .before .before .before .before .before .before .loop .inv) (told (now (c .before .before .before .before .before .before .before .before .args .script)) (c .before .before .before .before .before .before .loop .at) (c .before .before .before .before .before .before .loop .inv .within) (c .before .before .before .front .ensures) (c .before .length .given .1))
+loop-again c = go-on (c .before .before .before .before .before .before .loop .inv) (told (now (c .before .before .before .before .before .before .before .before .args .script)) (c .before .before .before .before .before .before .loop .at) (c .before .before .before .before .before .before .loop .inv .within) (c .before .before .before .next-step .ensures) (c .before .length .given .1))
 
 enum-known-why : tie.Need-enum-known-why Inv-loop μ-loop
 enum-known-why c = search needs
 
 returns : tie.Need-returns Inv-loop μ-loop
-returns c = no-request (c .before .before .before .before .before .before .loop .inv) (told (now (c .before .before .before .before .before .before .before .before .args .script)) (c .before .before .before .before .before .before .loop .at) (c .before .before .before .before .before .before .loop .inv .within) (c .before .before .before .front .ensures) (c .before .why .given .1))
+returns c = no-request (c .before .before .before .before .before .before .loop .inv) (told (now (c .before .before .before .before .before .before .before .before .args .script)) (c .before .before .before .before .before .before .loop .at) (c .before .before .before .before .before .before .loop .inv .within) (c .before .before .before .next-step .ensures) (c .before .why .given .1))
 
 returns-2 : tie.Need-returns-2 Inv-loop μ-loop
 returns-2 c = all-read (c .before .loop .inv) (c .loop-test .left)
@@ -60,10 +60,10 @@ measure-spec =
     Inv-loop
     μ-loop
     loop-holds
-    sub-front
-    part-front-start
-    part-front-end
-    front-requires
+    sub-next-step
+    part-next-step-start
+    part-next-step-end
+    next-step-requires
     enum-known-length
     add-at
     add-n

@@ -1,7 +1,7 @@
 -- The rest of a well-formed script begins with a whole request.
 use Rattle.script.proofs.Reading.{header-of, next-of}
-use Rattle.script.proofs.request.next.Statement.{statement}
-use Rattle.script.proofs.request.next.Tie as tie
+use Rattle.script.proofs.request.next_request.Statement.{statement}
+use Rattle.script.proofs.request.next_request.Tie as tie
 
 read-requires : tie.Need-read-requires
 read-requires c κs = header-of (c .before .pre .0) (c .before .pre .1)
@@ -9,5 +9,5 @@ read-requires c κs = header-of (c .before .pre .0) (c .before .pre .1)
 returns : tie.Need-returns
 returns c = next-of (c .read .result) (c .before .before .pre .0) (c .before .before .pre .1) (c .read .ensures .0) (c .read .ensures .1)
 
-pub next-spec : {M : Type 1} → statement M
-next-spec = tie.close (tie.spec read-requires returns)
+pub next-request-spec : {M : Type 1} → statement M
+next-request-spec = tie.close (tie.spec read-requires returns)

@@ -7,8 +7,8 @@ use denote.Ref.{now}
 use Rattle.script.proofs.Reading.{known-of, whole-step}
 use Rattle.script.specs.Request.{lengthOf, refused, header, unknown, arguments}
 use borrow.Author.Needs.{needs}
-use Rattle.script.proofs.request.front.Statement.{statement}
-use Rattle.script.proofs.request.front.Tie as tie
+use Rattle.script.proofs.request.next_step.Statement.{statement}
+use Rattle.script.proofs.request.next_step.Tie as tie
 
 returns : tie.Need-returns
 returns c = refused (header (c .before .before .pre) (c .if1 .taken))
@@ -46,8 +46,8 @@ add-t5 c = search needs
 returns-4 : tie.Need-returns-4
 returns-4 c = whole-step (now (c .before .before .before .before .before .before .before .before .before .before .before .args .script)) (c .before .before .before .before .before .before .before .before .read .result) (c .before .before .before .before .before .before .before .before .read .ensures .0) (c .before .before .before .before .before .before .before .before .read .ensures .1) (c .before .before .before .before .before .before .before .before .before .if1 .left) (known-of (now (c .before .before .before .before .before .before .before .before .before .before .before .args .script)) (c .before .before .before .before .before .before .before .before .read .result) _ _ (c .before .before .before .before .before .before .before .before .read .ensures .0) (c .before .before .before .before .before .before .before .is-known .ensures) (not-false _ (c .before .before .before .before .before .before .if2 .left))) (c .before .before .if3 .left)
 
-pub front-spec : {M : Type 1} → statement M
-front-spec =
+pub next-step-spec : {M : Type 1} → statement M
+next-step-spec =
     tie.close
     (tie.spec
     returns
