@@ -22,7 +22,8 @@ pub fn contains_delegation(s: Store, digest: &[u8]) -> Contained
         return Contained::Refused(Refusal::BadLength(digest.len()));
     }
     let n = s.delegations.count;
-    let at = tables::delegations::find(&s.delegations.digests, n, digest);
+    let digests = s.delegations.digests;
+    let at = tables::delegations::find(&digests, n, digest);
     Contained::Is(at.0 < n)
 }
 
