@@ -35,7 +35,8 @@ pub fn contains_revocation(s: Store, digest: &[u8]) -> Contained
         return Contained::Refused(Refusal::BadLength(digest.len()));
     }
     let n = s.revocations.count;
-    let at = tables::revocations::find(&s.revocations.digests, n, digest);
+    let digests = s.revocations.digests;
+    let at = tables::revocations::find(&digests, n, digest);
     Contained::Is(at.0 < n)
 }
 

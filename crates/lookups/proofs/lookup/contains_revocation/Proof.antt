@@ -12,14 +12,17 @@ returns : tie.Need-returns
 unfolding containsAnswer
 returns c = rw (ne-eqb _ _ (c .if1 .taken))
 
+slice-aggregate-find : tie.Need-slice-aggregate-find
+slice-aggregate-find c = sym (c .before .before .before .before .pre .revocations .digests .long)
+
 find-requires : tie.Need-find-requires
 find-requires c κs = search needs
 
 returns-2 : tie.Need-returns-2
 unfolding containsAnswer
 returns-2 c =
-    let s = c .before .before .before .before .before .before .before in
-    rw (eq-eqb _ _ (c .before .before .before .before .before .if1 .left)) (ap contained.Is (revocation-found (s .args .t1) (s .pre) (now (s .args .digest)) (c .before .find .result .0) (c .before .find .ensures)))
+    let s = c .before .before .before .before .before .before in
+    rw (eq-eqb _ _ (c .before .before .before .before .if1 .left)) (ap contained.Is (revocation-found (s .args .s) (s .pre) (now (s .args .digest)) (c .before .find .result .0) (c .before .find .ensures)))
 
 pub contains-revocation-spec : {M : Type 1} → statement M
-contains-revocation-spec = tie.close (tie.spec returns find-requires returns-2)
+contains-revocation-spec = tie.close (tie.spec returns slice-aggregate-find find-requires returns-2)
