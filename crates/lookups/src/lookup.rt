@@ -80,17 +80,14 @@ pub fn revocation(s: Store, digest: &[u8], issuer: &mut [u8], revoked: &mut [u8]
         return Looked::Refused(Refusal::BadLength(digest.len()));
     }
     let n = s.revocations.count;
-    let at = tables::revocations::find(&s.revocations.digests, n, digest);
+    let digests = s.revocations.digests;
+    let at = tables::revocations::find(&digests, n, digest);
     if at.0 < n {
-        let by = tables::revocations::key_at(&s.revocations.issuer, at);
-        return crate::put::put_revocation(
-            &s.keys.table,
-            &s.revocations.revoked,
-            at,
-            by,
-            issuer,
-            revoked,
-        );
+        let issuers = s.revocations.issuer;
+        let by = tables::revocations::key_at(&issuers, at);
+        let keys = s.keys.table;
+        let column = s.revocations.revoked;
+        return crate::put::put_revocation(&keys, &column, at, by, issuer, revoked);
     }
     Looked::Absent
 }
