@@ -49,24 +49,18 @@ pub fn delegation(s: Store, digest: &[u8], issuer: &mut [u8], payload: &mut [u8]
         return Looked::Refused(Refusal::BadLength(digest.len()));
     }
     let n = s.delegations.count;
-    let at = tables::delegations::find(&s.delegations.digests, n, digest);
+    let digests = s.delegations.digests;
+    let at = tables::delegations::find(&digests, n, digest);
     if at.0 < n {
-        let row = tables::delegations::row(
-            &s.delegations.issuer,
-            &s.delegations.audience,
-            &s.delegations.subject,
-            &s.delegations.power,
-            &s.delegations.cited,
-            at,
-        );
-        return crate::put::put_delegation(
-            &s.keys.table,
-            &s.delegations.citation,
-            at,
-            row,
-            issuer,
-            payload,
-        );
+        let issuers = s.delegations.issuer;
+        let audiences = s.delegations.audience;
+        let subjects = s.delegations.subject;
+        let powers = s.delegations.power;
+        let cited = s.delegations.cited;
+        let row = tables::delegations::row(&issuers, &audiences, &subjects, &powers, &cited, at);
+        let keys = s.keys.table;
+        let citations = s.delegations.citation;
+        return crate::put::put_delegation(&keys, &citations, at, row, issuer, payload);
     }
     Looked::Absent
 }
