@@ -47,9 +47,11 @@ pub fn revocations_of(s: Store, target: &[u8], out: &mut [u8]) -> Listed
         return Listed::Refused(Refusal::BadLength(target.len()));
     }
     let n = s.revocations.count;
-    let on = crate::mark::naming(&s.revocations.revoked, n, target);
-    let c = runs::list::choose(&s.revocations.digests, REVOCATION_LIMIT, n, &on);
-    crate::write::write_one(&s.revocations.digests, c, out)
+    let revoked = s.revocations.revoked;
+    let on = crate::mark::naming(&revoked, n, target);
+    let digests = s.revocations.digests;
+    let c = runs::list::choose(&digests, REVOCATION_LIMIT, n, &on);
+    crate::write::write_one(&digests, c, out)
 }
 
 // The held delegations with that subject and audience.
