@@ -66,10 +66,14 @@ pub fn delegations_to(s: Store, subject: &[u8], audience: &[u8], out: &mut [u8])
         return Listed::Refused(Refusal::BadLength(audience.len()));
     }
     let m = s.keys.count;
-    let i = tables::keys::find(&s.keys.table, m, subject);
-    let j = tables::keys::find(&s.keys.table, m, audience);
+    let keys = s.keys.table;
+    let i = tables::keys::find(&keys, m, subject);
+    let j = tables::keys::find(&keys, m, audience);
     let n = s.delegations.count;
-    let on = crate::mark::between(&s.delegations.subject, &s.delegations.audience, n, i, j);
-    let c = runs::list::choose(&s.delegations.digests, DELEGATION_LIMIT, n, &on);
-    crate::write::write_one(&s.delegations.digests, c, out)
+    let subjects = s.delegations.subject;
+    let audiences = s.delegations.audience;
+    let on = crate::mark::between(&subjects, &audiences, n, i, j);
+    let digests = s.delegations.digests;
+    let c = runs::list::choose(&digests, DELEGATION_LIMIT, n, &on);
+    crate::write::write_one(&digests, c, out)
 }
