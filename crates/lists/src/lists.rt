@@ -32,10 +32,12 @@ pub fn subjects(s: Store, out: &mut [u8]) -> Listed
     ensures { λ r. ⌜ (r ≡ listAnswer (subjectsOf (committed s)) (length (now (out .entry)))) × (now (out .exit) ≡ listBuffer r (subjectsOf (committed s)) (now (out .entry))) ⌝ }
 {
     let n = s.delegations.count;
-    let on = crate::mark::subjects(&s.delegations.subject, n);
+    let column = s.delegations.subject;
+    let on = crate::mark::subjects(&column, n);
     let m = s.keys.count;
-    let c = runs::list::choose(&s.keys.table, KEY_LIMIT, m, &on);
-    crate::write::write_one(&s.keys.table, c, out)
+    let keys = s.keys.table;
+    let c = runs::list::choose(&keys, KEY_LIMIT, m, &on);
+    crate::write::write_one(&keys, c, out)
 }
 
 // The held revocations that name the target, which need not be held.
