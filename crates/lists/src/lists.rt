@@ -20,10 +20,12 @@ pub fn certificates(s: Store, out: &mut [u8]) -> BothListed
 {
     let on = crate::mark::all();
     let n = s.delegations.count;
-    let c = runs::list::choose(&s.delegations.digests, DELEGATION_LIMIT, n, &on);
+    let delegations = s.delegations.digests;
+    let c = runs::list::choose(&delegations, DELEGATION_LIMIT, n, &on);
     let m = s.revocations.count;
-    let d = runs::list::choose(&s.revocations.digests, REVOCATION_LIMIT, m, &on);
-    crate::write::write_both(&s.delegations.digests, &s.revocations.digests, c, d, out)
+    let revocations = s.revocations.digests;
+    let d = runs::list::choose(&revocations, REVOCATION_LIMIT, m, &on);
+    crate::write::write_both(&delegations, &revocations, c, d, out)
 }
 
 // The subjects of held delegations.
