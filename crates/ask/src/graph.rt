@@ -5,17 +5,18 @@ use crate::list::LIST_LENGTH;
 use crate::members::byte_at;
 use crate::say;
 use crate::show;
+use answers::answer::Powered;
 use keyline::limits::CITED_LENGTH;
 use keyline::limits::DIGEST_LENGTH;
 use keyline::limits::KEY_LENGTH;
 use keyline::limits::KEY_LIMIT;
 use keyline::power::Power;
-use keyline_memory::answers::Powered;
-use keyline_memory::evaluated::Evaluated;
 use keyline_memory::state::State;
 use lists::write::BothListed;
 use lists::write::Listed;
-ghost use Rattle.keyline_memory.specs.State.{GoodState, GoodEvaluated};
+use queries::evaluated::Evaluated;
+ghost use Rattle.keyline_memory.specs.State.{GoodState};
+ghost use Rattle.queries.specs.Evaluated.{GoodEvaluated};
 
 pub(crate) fn graph(state: State, e: Evaluated, subject: &[u8])
     requires { ⌜ GoodState state ⌝ }

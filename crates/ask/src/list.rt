@@ -5,12 +5,13 @@ use crate::show;
 use keyline::limits::DELEGATION_LIMIT;
 use keyline::limits::KEY_LENGTH;
 use keyline::limits::REVOCATION_LIMIT;
-use keyline_memory::evaluated::Evaluated;
 use keyline_memory::state::State;
 use lists::write::BothListed;
 use lists::write::Listed;
 use notation::words::part;
-ghost use Rattle.keyline_memory.specs.State.{GoodState, GoodEvaluated};
+use queries::evaluated::Evaluated;
+ghost use Rattle.keyline_memory.specs.State.{GoodState};
+ghost use Rattle.queries.specs.Evaluated.{GoodEvaluated};
 
 // A full store's certificates.
 pub(crate) const ITEM_LIMIT: usize = DELEGATION_LIMIT + REVOCATION_LIMIT;

@@ -4,9 +4,9 @@ use crate::list::LIST_LENGTH;
 use crate::say;
 use crate::show;
 use keyline::limits::KEY_LIMIT;
-use keyline_memory::evaluated::Evaluated;
 use lists::write::Listed;
-ghost use Rattle.keyline_memory.specs.State.{GoodEvaluated};
+use queries::evaluated::Evaluated;
+ghost use Rattle.queries.specs.Evaluated.{GoodEvaluated};
 
 pub(crate) fn members(e: Evaluated, subject: &[u8], plain: bool)
     requires { ⌜ GoodEvaluated e ⌝ }

@@ -1,10 +1,10 @@
 // Questions whose answer is one line: a key's power, and what a delegation conveys and whether it stands.
 use crate::say;
-use keyline_memory::answers::Liveness;
-use keyline_memory::answers::Powered;
-use keyline_memory::answers::Stood;
-use keyline_memory::evaluated::Evaluated;
-ghost use Rattle.keyline_memory.specs.State.{GoodEvaluated};
+use answers::answer::Liveness;
+use answers::answer::Powered;
+use answers::answer::Stood;
+use queries::evaluated::Evaluated;
+ghost use Rattle.queries.specs.Evaluated.{GoodEvaluated};
 
 pub(crate) fn effective(e: Evaluated, subject: &[u8], key: &[u8], plain: bool)
     requires { ⌜ GoodEvaluated e ⌝ }

@@ -1,8 +1,8 @@
 // Words, names, numbers, levels and refusals to standard output.
+use answers::answer::Powered;
 use keyline::limits::KEY_LIMIT;
 use keyline::power::Power;
 use keyline::refusal::Refusal;
-use keyline_memory::answers::Powered;
 use libc::STDOUT_FILENO;
 
 pub(crate) fn text(word: &[u8]) {

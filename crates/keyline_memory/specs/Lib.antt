@@ -1,7 +1,1 @@
-pub mod Graph
-pub mod Answers
-pub mod OneClosure
-pub mod Facts
-pub mod Marks
-pub mod Sought
 pub mod State

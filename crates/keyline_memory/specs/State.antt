@@ -1,25 +1,13 @@
--- What a State and an Evaluated stand for, and what holds of every one: `new` and every call that returns one ensure it, and with private
--- fields nobody else can make one. Contracts speak of the committed set alone.
+-- What a State stands for, and what holds of every one: `new` and every call that returns one ensure it, and with private fields nobody
+-- else can make one. Contracts speak of the committed set alone.
 use mathlib.Core.Path.{_≡_}
 use mathlib.Core.Bool.{false}
 use Rattle.tables.specs.Committed.{Committed}
 use Rattle.tables.specs.Insertion.{isAdded, settled}
 use Rattle.tables.specs.declared.answer.Answer.{Answer}
 use Rattle.tables.specs.Store.{committed, GoodStore}
-use Rattle.evaluation.specs.Result as evaluation
-use Rattle.keyline_memory.specs.Facts.{FactsOf}
-use Rattle.keyline_memory.specs.declared.evaluated.Evaluated.{Evaluated}
 use Rattle.keyline_memory.specs.declared.state.State.{State}
 use Rattle.keyline_memory.specs.declared.state.Inserted.{Inserted}
-
-abbrev pub heldBy : Evaluated → Committed
-heldBy v = committed (v .store)
-
--- the evaluation is the one of the set that it belongs to
-pub record GoodEvaluated (v : Evaluated) : Type 0 where
-  pub store : GoodStore (v .store)
-  pub facts : FactsOf (v .store) (v .evaluation .facts)
-  pub evaluation : evaluation.Evaluated (v .evaluation)
 
 abbrev pub heldIn : State → Committed
 heldIn s = committed (s .store)

@@ -1,7 +1,2 @@
-// The certificate set and its synchronous evaluator (state.rs): every call of document 01, over bytes.
-pub mod answers;
-pub mod evaluated;
-pub mod facts;
-pub mod marks;
-pub mod sought;
+// The certificate set (state.rs): every call of document 01 that needs no evaluation, and evaluate. The queries of what it gives are in queries.
 pub mod state;

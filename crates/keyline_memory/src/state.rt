@@ -1,9 +1,9 @@
 // The certificate set (state.rs), by value. Its field is private, so that every State is one that `new` and insertions made.
-use crate::evaluated::Evaluated;
 use lists::write::BothListed;
 use lists::write::Listed;
 use lookups::lookup::Contained;
 use lookups::put::Looked;
+use queries::evaluated::Evaluated;
 use tables::answer::Answer;
 use tables::store::Store;
 ghost use mathlib.Core.Path.{_≡_};
@@ -14,7 +14,8 @@ ghost use Rattle.tables.specs.Insertion.{delegationAnswer, delegationAdded, rev
 ghost use Rattle.lookups.specs.Lookup.{containsAnswer, partBuffer};
 ghost use Rattle.lookups.specs.Lookup as look;
 ghost use Rattle.lists.specs.Lists.{bothAnswer, bothBuffer, listAnswer, listBuffer, lengthFirst, certificateDelegations, certificateRevocations, subjectsOf, revocationsOf, delegationsTo};
-ghost use Rattle.keyline_memory.specs.State.{heldBy, heldIn, GoodState, GoodEvaluated, Insertion};
+ghost use Rattle.keyline_memory.specs.State.{heldIn, GoodState, Insertion};
+ghost use Rattle.queries.specs.Evaluated.{heldBy, GoodEvaluated};
 
 pub struct State {
     store: Store,
@@ -83,7 +84,7 @@ impl State {
         requires { ⌜ GoodState self ⌝ }
         ensures { λ r. ⌜ GoodEvaluated r × (heldBy r ≡ heldIn self) ⌝ }
     {
-        crate::evaluated::evaluate(self.store)
+        queries::evaluated::evaluate(self.store)
     }
 
     pub fn contains_delegation(self, digest: &[u8]) -> Contained

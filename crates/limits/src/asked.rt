@@ -1,9 +1,10 @@
 // One line for each call that fills no buffer: its arguments, each by number and length, and its answer.
 use crate::make;
 use crate::say;
-use keyline_memory::evaluated::Evaluated;
 use keyline_memory::state::State;
-ghost use Rattle.keyline_memory.specs.State.{GoodState, GoodEvaluated};
+use queries::evaluated::Evaluated;
+ghost use Rattle.keyline_memory.specs.State.{GoodState};
+ghost use Rattle.queries.specs.Evaluated.{GoodEvaluated};
 
 fn argument(word: &[u8], k: u8, length: usize) {
     say::text(word);

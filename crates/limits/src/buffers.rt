@@ -5,9 +5,10 @@ use crate::fill::Kind;
 use crate::lists_of;
 use crate::say;
 use crate::small;
-use keyline_memory::evaluated::Evaluated;
 use keyline_memory::state::State;
-ghost use Rattle.keyline_memory.specs.State.{GoodState, GoodEvaluated};
+use queries::evaluated::Evaluated;
+ghost use Rattle.keyline_memory.specs.State.{GoodState};
+ghost use Rattle.queries.specs.Evaluated.{GoodEvaluated};
 
 fn small_lists(s: State)
     requires { ⌜ GoodState s ⌝ }

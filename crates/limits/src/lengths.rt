@@ -7,9 +7,10 @@ use crate::make;
 use crate::parts;
 use crate::say;
 use crate::small;
-use keyline_memory::evaluated::Evaluated;
 use keyline_memory::state::State;
-ghost use Rattle.keyline_memory.specs.State.{GoodState, GoodEvaluated};
+use queries::evaluated::Evaluated;
+ghost use Rattle.keyline_memory.specs.State.{GoodState};
+ghost use Rattle.queries.specs.Evaluated.{GoodEvaluated};
 
 fn lengths(word: &[u8], digest: usize, issuer: usize, third: usize) {
     say::number(word, digest);

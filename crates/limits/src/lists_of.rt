@@ -2,9 +2,10 @@
 use crate::make;
 use crate::say;
 use crate::say::BEFORE;
-use keyline_memory::evaluated::Evaluated;
 use keyline_memory::state::State;
-ghost use Rattle.keyline_memory.specs.State.{GoodState, GoodEvaluated};
+use queries::evaluated::Evaluated;
+ghost use Rattle.keyline_memory.specs.State.{GoodState};
+ghost use Rattle.queries.specs.Evaluated.{GoodEvaluated};
 
 // More than the longest list has: 128 delegations and 64 revocations.
 const SPACE: usize = 6200;

@@ -1,10 +1,10 @@
 // Answers to standard output, as words and numbers.
+use answers::answer::Liveness;
+use answers::answer::Powered;
+use answers::answer::Stood;
 use keyline::limits::DIGEST_LENGTH;
 use keyline::power::Power;
 use keyline::refusal::Refusal;
-use keyline_memory::answers::Liveness;
-use keyline_memory::answers::Powered;
-use keyline_memory::answers::Stood;
 use libc::STDOUT_FILENO;
 use lists::write::BothListed;
 use lists::write::Listed;

@@ -28,11 +28,11 @@ use Rattle.tables.specs.Insertion.{seenDelegation, delegationCheck, acceptedAns
 use Rattle.tables.specs.declared.answer.Answer.the-variants.{Refused}
 use Rattle.lists.specs.Lists.{listing, names, fromTo}
 use Rattle.lists.proofs.AreLists.{is-list}
-use Rattle.keyline_memory.specs.Graph.{graph, store}
-use Rattle.keyline_memory.specs.OneClosure.{Apart, OneClosure}
-use Rattle.keyline_memory.proofs.Equality.{finite}
-use Rattle.keyline_memory.proofs.Settled.{conveyed-power-settled, is-live-settled, standing-answer-settled}
-use Rattle.keyline_memory.proofs.OneClosure.{demand-3}
+use Rattle.answers.specs.Graph.{graph, store}
+use Rattle.answers.specs.OneClosure.{Apart, OneClosure}
+use Rattle.answers.proofs.Equality.{finite}
+use Rattle.answers.proofs.Settled.{conveyed-power-settled, is-live-settled, standing-answer-settled}
+use Rattle.answers.proofs.OneClosure.{demand-3}
 use Rattle.keyline_memory.specs.State.{heldIn}
 use Rattle.keyline_memory.specs.declared.state.State.{State}
 use Rattle.order.specs.AnyOrder.{Certificate, delegation, revocation, answerTo, heldAfter, heldAfterAll, noneRefused, Among, Came, started, delegated, revoked, SameHeld, SameSets}

@@ -12,13 +12,13 @@ use Rattle.tables.specs.declared.answer.Answer.{Answer}
 use Rattle.tables.specs.declared.answer.Answer.the-variants.{Added, NotAdded, Refused}
 use Rattle.lists.specs.Lists.{certificateDelegations, certificateRevocations, subjectsOf, revocationsOf, delegationsTo}
 use Rattle.keyline_memory.specs.State.{heldIn, GoodState, Insertion}
-use Rattle.keyline_memory.specs.Answers.{IsLive, ConveyedPower, StandingAnswer}
-use Rattle.keyline_memory.specs.OneClosure.{SameAnswers}
+use Rattle.answers.specs.Answers.{IsLive, ConveyedPower, StandingAnswer}
+use Rattle.answers.specs.OneClosure.{SameAnswers}
 use Rattle.keyline_memory.specs.declared.state.State.{State}
 use Rattle.keyline_memory.specs.declared.state.Inserted.{Inserted}
-use Rattle.keyline_memory.specs.declared.answers.Powered.{Powered}
-use Rattle.keyline_memory.specs.declared.answers.Liveness.{Liveness}
-use Rattle.keyline_memory.specs.declared.answers.Stood.{Stood}
+use Rattle.answers.specs.declared.answer.Powered.{Powered}
+use Rattle.answers.specs.declared.answer.Liveness.{Liveness}
+use Rattle.answers.specs.declared.answer.Stood.{Stood}
 
 -- ## Certificates one after the other
 -- "A delegation comes as digest, issuer and payload; a revocation as digest, issuer and the digest it revokes."

@@ -5,18 +5,19 @@ use crate::frame;
 use crate::frame::Frame;
 use crate::marks;
 use crate::tally::Tally;
+use answers::answer::Liveness;
+use answers::answer::Powered;
+use answers::answer::Stood;
 use keyline::limits::CITED_LENGTH;
 use keyline::limits::DIGEST_LENGTH;
 use keyline::limits::KEY_LENGTH;
-use keyline_memory::answers::Liveness;
-use keyline_memory::answers::Powered;
-use keyline_memory::answers::Stood;
-use keyline_memory::evaluated::Evaluated;
 use keyline_memory::state::State;
 use lists::write::Listed;
 use lookups::lookup::Contained;
 use lookups::put::Looked;
-ghost use Rattle.keyline_memory.specs.State.{GoodState, GoodEvaluated};
+use queries::evaluated::Evaluated;
+ghost use Rattle.keyline_memory.specs.State.{GoodState};
+ghost use Rattle.queries.specs.Evaluated.{GoodEvaluated};
 
 // What lookup buffers are filled with before the call.
 const BEFORE: u8 = 165;

@@ -9,11 +9,12 @@ use crate::pairs;
 use crate::tally::Tally;
 use keyline::limits::DIGEST_LENGTH;
 use keyline::limits::KEY_LENGTH;
-use keyline_memory::evaluated::Evaluated;
 use keyline_memory::state::State;
 use lists::write::BothListed;
 use lists::write::Listed;
-ghost use Rattle.keyline_memory.specs.State.{GoodState, GoodEvaluated};
+use queries::evaluated::Evaluated;
+ghost use Rattle.keyline_memory.specs.State.{GoodState};
+ghost use Rattle.queries.specs.Evaluated.{GoodEvaluated};
 
 const ALL: usize = DIGEST_LENGTH * (frame::MOST_DELEGATIONS + frame::MOST_REVOCATIONS);
 

@@ -7,10 +7,11 @@ use crate::frame::Frame;
 use crate::marks;
 use crate::tally::Tally;
 use keyline::limits::DIGEST_LENGTH;
-use keyline_memory::evaluated::Evaluated;
 use keyline_memory::state::State;
 use lists::write::Listed;
-ghost use Rattle.keyline_memory.specs.State.{GoodState, GoodEvaluated};
+use queries::evaluated::Evaluated;
+ghost use Rattle.keyline_memory.specs.State.{GoodState};
+ghost use Rattle.queries.specs.Evaluated.{GoodEvaluated};
 
 pub(crate) fn positive(
     e: Evaluated,

@@ -8,9 +8,10 @@ use lib.Seq.{length-take-le, take-at, drop-at, take-add, take-take, drop-drop, t
 use borrow.Rule.Slice.PartMut.{midOf, putMid}
 use Rattle.runs.specs.Bytes.{Bytes}
 use Rattle.tables.specs.Committed.{Committed, nothing}
-use Rattle.keyline_memory.specs.State.{heldIn, heldBy, GoodState, GoodEvaluated}
+use Rattle.keyline_memory.specs.State.{heldIn, GoodState}
+use Rattle.queries.specs.Evaluated.{heldBy, GoodEvaluated}
 use Rattle.keyline_memory.specs.declared.state.State.{State}
-use Rattle.keyline_memory.specs.declared.evaluated.Evaluated.{Evaluated}
+use Rattle.queries.specs.declared.evaluated.Evaluated.{Evaluated}
 use Rattle.script.specs.Reply.{headLength, valued}
 use Rattle.script.specs.Request.{headerLength, requestOf, lengthOf, needs, firstOf, secondOf, thirdOf, Whole, Script, Malformed, NextOf, Asked}
 use Rattle.script.specs.Request as request

@@ -9,7 +9,7 @@ use lib.ListN.{length, take, drop}
 use Rattle.keyline.specs.declared.refusal.Refusal.{Refusal}
 use Rattle.runs.specs.Bytes.{Bytes}
 use Rattle.tables.specs.Committed.{Committed, nothing}
-use Rattle.keyline_memory.proofs.Settled as calls
+use Rattle.answers.proofs.Settled as calls
 use Rattle.script.specs.Operation.{isKnown}
 use Rattle.script.specs.Request.{requestOf, Whole, Script, ended, next, NoRequest, header, unknown, arguments, Malformed, here, later}
 use Rattle.script.specs.Reply as reply

@@ -16,12 +16,12 @@ use Rattle.lists.specs.declared.write.Listed.{Listed}
 use Rattle.lists.specs.declared.write.Listed.the-variants as one
 use Rattle.lists.specs.declared.write.BothListed.{BothListed}
 use Rattle.lists.specs.declared.write.BothListed.the-variants as both
-use Rattle.keyline_memory.specs.declared.answers.Powered.{Powered}
-use Rattle.keyline_memory.specs.declared.answers.Powered.the-variants as power
-use Rattle.keyline_memory.specs.declared.answers.Liveness.{Liveness}
-use Rattle.keyline_memory.specs.declared.answers.Liveness.the-variants as liveness
-use Rattle.keyline_memory.specs.declared.answers.Stood.{Stood}
-use Rattle.keyline_memory.specs.declared.answers.Stood.the-variants as standing
+use Rattle.answers.specs.declared.answer.Powered.{Powered}
+use Rattle.answers.specs.declared.answer.Powered.the-variants as power
+use Rattle.answers.specs.declared.answer.Liveness.{Liveness}
+use Rattle.answers.specs.declared.answer.Liveness.the-variants as liveness
+use Rattle.answers.specs.declared.answer.Stood.{Stood}
+use Rattle.answers.specs.declared.answer.Stood.the-variants as standing
 use Rattle.script.specs.declared.reply.Reply.{Reply}
 
 abbrev pub valued : ℕ → Reply

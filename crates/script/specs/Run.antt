@@ -17,10 +17,10 @@ use Rattle.lookups.specs.declared.put.Looked.{Looked}
 use Rattle.lists.specs.Lists.{bothAnswer, bothBuffer, listAnswer, listBuffer, lengthFirst, certificateDelegations, certificateRevocations, subjectsOf, revocationsOf, delegationsTo}
 use Rattle.lists.specs.declared.write.Listed.{Listed}
 use Rattle.lists.specs.declared.write.BothListed.{BothListed}
-use Rattle.keyline_memory.specs.Answers.{PositivePower, EffectivePower, ConveyedPower, IsLive, StandingAnswer, MembersAnswer, ClosureAnswer}
-use Rattle.keyline_memory.specs.declared.answers.Powered.{Powered}
-use Rattle.keyline_memory.specs.declared.answers.Liveness.{Liveness}
-use Rattle.keyline_memory.specs.declared.answers.Stood.{Stood}
+use Rattle.answers.specs.Answers.{PositivePower, EffectivePower, ConveyedPower, IsLive, StandingAnswer, MembersAnswer, ClosureAnswer}
+use Rattle.answers.specs.declared.answer.Powered.{Powered}
+use Rattle.answers.specs.declared.answer.Liveness.{Liveness}
+use Rattle.answers.specs.declared.answer.Stood.{Stood}
 use Rattle.script.specs.Reply as reply
 use Rattle.script.specs.Reply.{headLength, headOf}
 use Rattle.script.specs.Request.{requestOf, firstOf, secondOf, thirdOf, Whole, Script, Malformed}

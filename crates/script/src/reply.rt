@@ -1,8 +1,8 @@
 // A reply: a number and two values, from the answer that each call gives. docs/SCRIPT.md has the table.
+use answers::answer::Liveness;
+use answers::answer::Powered;
+use answers::answer::Stood;
 use keyline::refusal::Refusal;
-use keyline_memory::answers::Liveness;
-use keyline_memory::answers::Powered;
-use keyline_memory::answers::Stood;
 use lists::write::BothListed;
 use lists::write::Listed;
 use lookups::lookup::Contained;
