@@ -1,6 +1,6 @@
 // Certificates go into the store as they are read. A payload is written by the kernel's own writer.
 use crate::say;
-use keyline::delegation::Encoded;
+use codec::delegation::Encoded;
 use keyline::limits::CITED_LENGTH;
 use keyline_memory::state::Inserted;
 use keyline_memory::state::State;
@@ -17,7 +17,7 @@ pub(crate) fn delegation(state: State, s: Statement, number: usize) -> State
     let audience = s.third;
     let subject = s.fourth;
     let mut payload = [0u8; CITED_LENGTH];
-    let written = keyline::delegation::encode(&audience, &subject, s.level, b"", &mut payload);
+    let written = codec::delegation::encode(&audience, &subject, s.level, b"", &mut payload);
     match written {
         Encoded::Refused(why) => {
             refused(why, number);

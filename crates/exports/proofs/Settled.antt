@@ -6,15 +6,15 @@ use mathlib.Core.Bool.{Bool, true, false}
 use mathlib.Core.List.{List}
 use native.Mathlib.Omega.{arith}
 use lib.ListN.{length}
-use Rattle.keyline.specs.Delegation.{decoded, citationOf}
+use Rattle.codec.specs.Delegation.{decoded, citationOf}
 use Rattle.keyline.specs.declared.power.Power.{Power}
-use Rattle.keyline.specs.declared.delegation.Decoded.{Decoded}
-use Rattle.keyline.specs.declared.delegation.Decoded.the-variants.{Accepted, Refused}
-use Rattle.keyline.specs.declared.delegation.Encoded.{Encoded}
-use Rattle.keyline.specs.declared.delegation.Encoded.the-variants as answer
+use Rattle.codec.specs.declared.delegation.Decoded.{Decoded}
+use Rattle.codec.specs.declared.delegation.Decoded.the-variants.{Accepted, Refused}
+use Rattle.codec.specs.declared.delegation.Encoded.{Encoded}
+use Rattle.codec.specs.declared.delegation.Encoded.the-variants as answer
 use Rattle.keyline.proofs.Levels.{same-byte}
 use Rattle.keyline.proofs.Numbers.{number-range, same-refusal}
-use Rattle.keyline.proofs.Payload.Parts.{parts, refused-citation}
+use Rattle.codec.proofs.Parts.{parts, refused-citation}
 use Rattle.exports.specs.Answer.{decodeNumber, decodeBeside, decodePower, decodeCitation, encodeNumber, encodeBeside, encodeWritten}
 
 -- the count that the reader hands over is the length of the citation

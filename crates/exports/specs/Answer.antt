@@ -6,10 +6,10 @@ use mathlib.Core.List.{List}
 use Rattle.keyline.specs.Limits.{digestLength}
 use Rattle.keyline.specs.Power.{rankOf, byteOf}
 use Rattle.keyline.specs.Refusal.{numberOf, besideOf}
-use Rattle.keyline.specs.declared.delegation.Decoded.{Decoded}
-use Rattle.keyline.specs.declared.delegation.Decoded.the-variants.{Accepted, Refused}
-use Rattle.keyline.specs.declared.delegation.Encoded.{Encoded}
-use Rattle.keyline.specs.declared.delegation.Encoded.the-variants as answer
+use Rattle.codec.specs.declared.delegation.Decoded.{Decoded}
+use Rattle.codec.specs.declared.delegation.Decoded.the-variants.{Accepted, Refused}
+use Rattle.codec.specs.declared.delegation.Encoded.{Encoded}
+use Rattle.codec.specs.declared.delegation.Encoded.the-variants as answer
 use Rattle.script.specs.Run.{RanAs}
 use Rattle.script.specs.declared.run.Ran.{Ran}
 use Rattle.script.specs.declared.run.Ran.the-variants as ran

@@ -1,13 +1,13 @@
 // The delegation payload's reader and writer, and the whole kernel on a script, for callers through C, the app's Rust among them.
 // keyline.h beside src/ is their declaration.
 // Each answers a refusal's number, or 0, and puts every other part of the answer behind a pointer of the caller's.
-use keyline::delegation::Decoded;
-use keyline::delegation::Encoded;
+use codec::delegation::Decoded;
+use codec::delegation::Encoded;
 use keyline::limits::DIGEST_LENGTH;
 use script::run::Ran;
 ghost use mathlib.Core.Path.{_≡_};
 ghost use lib.ListN.{length};
-ghost use Rattle.keyline.specs.Delegation.{decoded, citationOf, encodeAnswer, afterEncode};
+ghost use Rattle.codec.specs.Delegation.{decoded, citationOf, encodeAnswer, afterEncode};
 ghost use Rattle.exports.specs.Answer.{decodeNumber, decodeBeside, decodePower, decodeRank, citationBytes, encodeNumber, encodeBeside, encodeWritten};
 ghost use Rattle.exports.specs.Answer.{RunIs};
 
@@ -29,7 +29,7 @@ pub extern "C" fn keyline_delegation_decode(
     ensures { λ _. ⌜ now (rank .exit) ≡ decodeRank (decoded (now (payload .entry))) ⌝ }
     ensures { λ _. ⌜ now (citation .exit) ≡ length (citationOf (now (payload .entry))) ⌝ }
 {
-    match keyline::delegation::decode(payload) {
+    match codec::delegation::decode(payload) {
         Decoded::Accepted(p, cited) => {
             *beside = 0;
             *power = keyline::power::byte(p);
@@ -70,7 +70,7 @@ pub extern "C" fn keyline_delegation_encode(
     ensures { λ _. ⌜ now (beside .exit) ≡ encodeBeside (encodeAnswer (now (audience .entry)) (now (subject .entry)) power (now (citation .entry)) (now (out .entry))) ⌝ }
     ensures { λ _. ⌜ now (out .exit) ≡ afterEncode (now (audience .entry)) (now (subject .entry)) power (now (citation .entry)) (now (out .entry)) ⌝ }
 {
-    match keyline::delegation::encode(audience, subject, power, citation, out) {
+    match codec::delegation::encode(audience, subject, power, citation, out) {
         Encoded::Bytes(n) => {
             *written = n;
             *beside = 0;

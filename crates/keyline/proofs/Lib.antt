@@ -1,4 +1,3 @@
 pub mod Levels
 pub mod Numbers
 pub mod Fronts
-pub mod Payload

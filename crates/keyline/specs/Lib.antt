@@ -2,4 +2,3 @@ pub mod Limits
 pub mod Power
 pub mod Refusal
 pub mod Bytes
-pub mod Delegation

@@ -15,8 +15,8 @@ pub fn put_at(out: &mut [u8], at: usize, src: &[u8])
     }
 }
 
-// The same for a run that fits.
-pub(crate) fn copy_at(out: &mut [u8], at: usize, src: &[u8])
+// The same for a run that fits, for those who have seen to it.
+pub fn copy_at(out: &mut [u8], at: usize, src: &[u8])
     requires { ⌜ at + length (now src) ≤ length (now out) ⌝ }
     ensures { λ _. ⌜ now (out .exit) ≡ put (now (out .entry)) at (now (src .entry)) ⌝ }
 {

@@ -10,13 +10,13 @@ use lib.Dec.{eqb, ltb}
 use borrow.Author.Tests.{lt-ltb, le-ltb, eq-eqb, ne-eqb}
 use Rattle.keyline.specs.Bytes.{front}
 use Rattle.keyline.specs.Power.{levelOf, byteOf}
-use Rattle.keyline.specs.Delegation.{encoded, encodeAnswer, afterEncode, filled}
+use Rattle.codec.specs.Delegation.{encoded, encodeAnswer, afterEncode, filled}
 use Rattle.keyline.specs.declared.power.Power.{Power}
 use Rattle.keyline.specs.declared.power.Level.the-variants.{Is}
-use Rattle.keyline.specs.declared.delegation.Encoded.the-variants as written
+use Rattle.codec.specs.declared.delegation.Encoded.the-variants as written
 use Rattle.keyline.specs.declared.refusal.Refusal.the-variants.{SmallBuffer, BadLength}
 use Rattle.keyline.proofs.Levels.{level-byte}
-use Rattle.keyline.proofs.Payload.Writing.{writes}
+use Rattle.codec.proofs.Writing.{writes}
 use Rattle.places.specs.declared.DelegationPlace.{DelegationPlace}
 use Rattle.runs.specs.Bytes.{Bytes, runLength, runAt}
 use Rattle.runs.proofs.ByteLaws.{length-run}

@@ -78,7 +78,7 @@ fn put_payload<'a>(
     let c = RUN_LENGTH * at.0;
     let e = c + citation_length(row.cited);
     let w = power_byte(row.power);
-    let written = keyline::delegation::encode(
+    let written = codec::delegation::encode(
         &keys[a..a + RUN_LENGTH],
         &keys[s..s + RUN_LENGTH],
         w,

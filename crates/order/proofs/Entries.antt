@@ -12,10 +12,10 @@ use borrow.Author.Tests.{eqb-true}
 use Rattle.keyline.specs.Limits.{keyLength, digestLength, keyLimit, delegationLimit, revocationLimit}
 use Rattle.keyline.specs.Power.{rankOf}
 use Rattle.keyline.proofs.Levels.{same-rank}
-use Rattle.keyline.specs.Delegation.{decoded}
+use Rattle.codec.specs.Delegation.{decoded}
 use Rattle.keyline.specs.declared.power.Power.{Power}
-use Rattle.keyline.specs.declared.delegation.Decoded.{Decoded}
-use Rattle.keyline.specs.declared.delegation.Decoded.the-variants as reading
+use Rattle.codec.specs.declared.delegation.Decoded.{Decoded}
+use Rattle.codec.specs.declared.delegation.Decoded.the-variants as reading
 use Rattle.keyline.specs.declared.refusal.Refusal.{Refusal}
 use Rattle.keyline.specs.declared.refusal.Refusal.the-variants.{FullDelegations, FullRevocations, FullKeys}
 use Rattle.runs.specs.Bytes.{Bytes, eqBytes}

@@ -15,9 +15,9 @@ use Rattle.rules.proofs.Derivations.Monotone.{mono}
 use Rattle.rules.proofs.Evaluation.Listing.{lists-same}
 use Rattle.rules.proofs.Stores.OneClosure as rules
 use Rattle.keyline.specs.Power.{rankOf}
-use Rattle.keyline.specs.Delegation.{decoded}
-use Rattle.keyline.specs.declared.delegation.Decoded.{Decoded}
-use Rattle.keyline.specs.declared.delegation.Decoded.the-variants as reading
+use Rattle.codec.specs.Delegation.{decoded}
+use Rattle.codec.specs.declared.delegation.Decoded.{Decoded}
+use Rattle.codec.specs.declared.delegation.Decoded.the-variants as reading
 use Rattle.runs.specs.Bytes.{Bytes}
 use Rattle.runs.specs.Members.{has, place, Distinct, SameRuns}
 use Rattle.runs.proofs.MemberLaws.{mem-has, has-mem, has-not, same-long}

@@ -1,5 +1,5 @@
 // Cases of the reader.
-use keyline::delegation::Decoded;
+use codec::delegation::Decoded;
 
 // The first n bytes of the sample.
 pub(crate) fn case(power: u8, tag: u8, n: usize) {
@@ -14,7 +14,7 @@ pub(crate) fn case(power: u8, tag: u8, n: usize) {
 }
 
 fn found(payload: &[u8]) {
-    match keyline::delegation::decode(payload) {
+    match codec::delegation::decode(payload) {
         Decoded::Refused(r) => crate::print::refusal(r),
         Decoded::Accepted(p, cited) => {
             crate::print::byte(b": accepted ", keyline::power::byte(p));
@@ -26,7 +26,7 @@ fn found(payload: &[u8]) {
 
 // The part that is handed back: its length, and its first and last byte, which name their places in the payload.
 fn citation(payload: &[u8]) {
-    let c = keyline::delegation::citation(payload);
+    let c = codec::delegation::citation(payload);
     crate::print::number(b", citation of ", c.len());
     if 0 < c.len() {
         crate::print::byte(b", bytes ", c[0]);

@@ -1,6 +1,6 @@
 // Cases of the writer.
 use crate::sample::LENGTH;
-use keyline::delegation::Encoded;
+use codec::delegation::Encoded;
 use keyline::limits::KEY_LENGTH;
 use keyline::limits::PAYLOAD_LENGTH;
 
@@ -36,7 +36,7 @@ fn written(
     let a = crate::sample::cut(s, 0, audience);
     let b = crate::sample::cut(s, KEY_LENGTH, subject);
     let c = crate::sample::cut(s, PAYLOAD_LENGTH, citation);
-    match keyline::delegation::encode(a, b, power, c, &mut out[0..room]) {
+    match codec::delegation::encode(a, b, power, c, &mut out[0..room]) {
         Encoded::Refused(r) => crate::print::refusal(r),
         Encoded::Bytes(n) => {
             crate::print::number(b": wrote ", n);

@@ -1,7 +1,7 @@
 // The line p: a payload and what the reader says of it.
 use crate::fields;
 use crate::tally::Tally;
-use keyline::delegation::Decoded;
+use codec::delegation::Decoded;
 use keyline::limits::DIGEST_LENGTH;
 use keyline::power::Power;
 use keyline::refusal::Refusal;
@@ -64,7 +64,7 @@ fn is_accepted(line: &[u8]) -> bool {
 }
 
 fn decodes(line: &[u8], payload: &[u8]) -> bool {
-    let found = keyline::delegation::decode(payload);
+    let found = codec::delegation::decode(payload);
     match found {
         Decoded::Refused(why) => refuses(line, why),
         Decoded::Accepted(power, cited) => accepts(line, power, cited),
@@ -86,7 +86,7 @@ fn accepts(line: &[u8], power: Power, cited: bool) -> bool {
 
 // The citation is handed back as a part of the payload; it is empty where the line has none.
 fn cites(line: &[u8], payload: &[u8]) -> bool {
-    let citation = keyline::delegation::citation(payload);
+    let citation = codec::delegation::citation(payload);
     let text = fields::field(line, 4);
     let mut wanted = [0u8; DIGEST_LENGTH];
     if fields::hex(text, &mut wanted) {

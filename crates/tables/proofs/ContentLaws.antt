@@ -9,12 +9,12 @@ use lib.ListN.{length, take, drop, getD}
 use lib.Dec.{eqb}
 use borrow.Author.Tests.{eq-eqb, eqb-true, eqb-false}
 use Rattle.keyline.specs.Power.{byteOf, rankOf, levelOf}
-use Rattle.keyline.specs.Delegation.{decoded, citationOf, encoded, tagFor}
+use Rattle.codec.specs.Delegation.{decoded, citationOf, encoded, tagFor}
 use Rattle.keyline.specs.declared.power.Power.{Power}
 use Rattle.keyline.specs.declared.power.Power.the-variants.{Relay, Read, Edit, Admin}
 use Rattle.keyline.specs.declared.power.Level.the-variants.{Is, Unknown}
-use Rattle.keyline.proofs.Payload.Parts.{parts}
-use Rattle.keyline.specs.declared.delegation.Decoded.the-variants as reading
+use Rattle.codec.proofs.Parts.{parts}
+use Rattle.codec.specs.declared.delegation.Decoded.the-variants as reading
 use Rattle.runs.specs.Bytes.{Bytes, eqBytes}
 use Rattle.runs.proofs.BoolLaws.{both-true}
 use Rattle.runs.proofs.ByteLaws.{eq-true, eq-refl}

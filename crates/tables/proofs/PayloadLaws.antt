@@ -7,10 +7,10 @@ use mathlib.Core.List.{List}
 use native.Mathlib.Omega.{arith}
 use lib.ListN.{length, take, drop, length-drop}
 use lib.Seq.{length-take-le}
-use Rattle.keyline.specs.Delegation.{decoded, citationOf}
+use Rattle.codec.specs.Delegation.{decoded, citationOf}
 use Rattle.keyline.specs.declared.power.Power.{Power}
-use Rattle.keyline.specs.declared.delegation.Decoded.the-variants as reading
-use Rattle.keyline.proofs.Payload.Reading.{sound}
+use Rattle.codec.specs.declared.delegation.Decoded.the-variants as reading
+use Rattle.codec.proofs.Reading.{sound}
 use Rattle.runs.specs.Bytes.{Bytes}
 use Rattle.keyline.specs.Limits.{keyLength, digestLength}
 

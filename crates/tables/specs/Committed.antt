@@ -6,7 +6,7 @@ use mathlib.Core.List.{List, [], _∷_, _++_, map}
 use lib.ListN.{length, getD}
 use lib.Dec.{eqb}
 use Rattle.keyline.specs.Power.{byteOf, rankOf}
-use Rattle.keyline.specs.Delegation.{encoded}
+use Rattle.codec.specs.Delegation.{encoded}
 use Rattle.keyline.specs.declared.power.Power.{Power}
 use Rattle.keyline.specs.declared.power.Power.the-variants.{Relay}
 use Rattle.runs.specs.Bytes.{Bytes, eqBytes}

@@ -7,10 +7,10 @@ use mathlib.Core.List.{List, [], _∷_, _++_}
 use lib.ListN.{length, take, drop}
 use lib.Dec.{ltb, eqb}
 use Rattle.keyline.specs.Power.{rankOf}
-use Rattle.keyline.specs.Delegation.{decoded, citationOf}
+use Rattle.codec.specs.Delegation.{decoded, citationOf}
 use Rattle.keyline.specs.declared.power.Power.{Power}
-use Rattle.keyline.specs.declared.delegation.Decoded.{Decoded}
-use Rattle.keyline.specs.declared.delegation.Decoded.the-variants as reading
+use Rattle.codec.specs.declared.delegation.Decoded.{Decoded}
+use Rattle.codec.specs.declared.delegation.Decoded.the-variants as reading
 use Rattle.keyline.specs.declared.refusal.Refusal.{Refusal}
 use Rattle.keyline.specs.declared.refusal.Refusal.the-variants.{BadLength, Conflict, FullDelegations, FullRevocations, FullKeys}
 use Rattle.runs.specs.Bytes.{Bytes}

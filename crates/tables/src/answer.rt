@@ -1,6 +1,6 @@
 // The answer to an insertion, from what the checks look at: nothing is written here.
 use crate::delegations::DelegationRow;
-use keyline::delegation::Decoded;
+use codec::delegation::Decoded;
 use keyline::limits::DELEGATION_LIMIT;
 use keyline::limits::DIGEST_LENGTH;
 use keyline::limits::KEY_LENGTH;
@@ -154,10 +154,10 @@ pub fn delegation_answer<'a>(
     if issuer.len() != KEY_LENGTH {
         return Answer::Refused(Refusal::BadLength(issuer.len()));
     }
-    match keyline::delegation::decode(payload) {
+    match codec::delegation::decode(payload) {
         Decoded::Refused(why) => Answer::Refused(why),
         Decoded::Accepted(power, _) => {
-            let citation = keyline::delegation::citation(payload);
+            let citation = codec::delegation::citation(payload);
             accepted_answer(
                 keys,
                 m,

@@ -4,7 +4,7 @@ use crate::answer::Answer;
 use crate::delegations::Delegations;
 use crate::keys::Keys;
 use crate::revocations::Revocations;
-use keyline::delegation::Decoded;
+use codec::delegation::Decoded;
 use keyline::limits::DELEGATION_LIMIT;
 use keyline::limits::KEY_LENGTH;
 use keyline::limits::REVOCATION_LIMIT;
@@ -17,7 +17,7 @@ use runs::table::LARGE_TABLE;
 use runs::table::SMALL_TABLE;
 ghost use mathlib.Core.Path.{_≡_};
 ghost use lib.Dec.{eqb};
-ghost use Rattle.keyline.specs.Delegation.{decoded};
+ghost use Rattle.codec.specs.Delegation.{decoded};
 ghost use Rattle.tables.specs.Committed.{nothing, lengthOf};
 ghost use Rattle.tables.specs.Insertion.{readRank, delegationAnswer, delegationAdded, revocationAnswer, revocationAdded};
 ghost use Rattle.tables.specs.Store.{committed, GoodStore, Insertion};
@@ -90,7 +90,7 @@ pub fn is_empty(s: Store) -> bool
 fn rank_of(payload: &[u8]) -> u8
     ensures { λ r. ⌜ r ≡ readRank (decoded (now (payload .entry))) ⌝ }
 {
-    match keyline::delegation::decode(payload) {
+    match codec::delegation::decode(payload) {
         Decoded::Refused(_) => 0,
         Decoded::Accepted(power, _) => keyline::power::rank(power),
     }
@@ -136,7 +136,7 @@ pub fn insert_delegation(mut s: Store, digest: &[u8], issuer: &[u8], payload: &[
         crate::delegations::set_key(&mut s.delegations.audience, new, KeyPlace(a.place));
         crate::delegations::set_key(&mut s.delegations.subject, new, KeyPlace(u.place));
         crate::delegations::set_rank(&mut s.delegations.power, new, rank_of(payload));
-        let citation = keyline::delegation::citation(payload);
+        let citation = codec::delegation::citation(payload);
         crate::delegations::set_flag(&mut s.delegations.cited, new, citation.len() != 0);
         crate::delegations::put_citation(&mut s.delegations.citation, new, citation);
         table::push_large(&mut s.delegations.digests, n, digest);

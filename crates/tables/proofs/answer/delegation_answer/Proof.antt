@@ -5,8 +5,8 @@ use native.Mathlib.Omega.{arith}
 use lib.ListN.{length}
 use borrow.Author.Tests.{eq-eqb, ne-eqb}
 use denote.Ref.{now}
-use Rattle.keyline.specs.Delegation.{decoded, citationOf}
-use Rattle.keyline.specs.declared.delegation.Decoded.the-variants as reading
+use Rattle.codec.specs.Delegation.{decoded, citationOf}
+use Rattle.codec.specs.declared.delegation.Decoded.the-variants as reading
 use Rattle.tables.specs.Insertion.{delegationCheck, acceptedAnswer, keysAnswer, delegationFrom, Seen}
 use Rattle.tables.specs.Committed.{Delegation, sameContent}
 use Rattle.tables.specs.Look.{argument}

@@ -2,11 +2,11 @@
 use mathlib.Core.Path.{sym, _∙_}
 use native.Mathlib.Omega.{arith}
 use borrow.Author.Tests.{eq-eqb, ne-eqb, lt-ltb, le-ltb, not-true, not-false}
-use Rattle.keyline.specs.Delegation.{encodeChecked}
-use Rattle.keyline.proofs.Payload.Writing.{fits-most, checked}
+use Rattle.codec.specs.Delegation.{encodeChecked}
+use Rattle.codec.proofs.Writing.{fits-most, checked}
 use borrow.Author.Needs.{needs}
-use Rattle.keyline.proofs.delegation.encode_check.Statement.{statement}
-use Rattle.keyline.proofs.delegation.encode_check.Tie as tie
+use Rattle.codec.proofs.delegation.encode_check.Statement.{statement}
+use Rattle.codec.proofs.delegation.encode_check.Tie as tie
 
 returns : tie.Need-returns
 unfolding encodeChecked

@@ -3,12 +3,12 @@ use mathlib.Core.Path.{sym, ap, _∙_}
 use mathlib.Core.Bool.{true}
 use native.Mathlib.Omega.{arith}
 use denote.Ref.{now}
-use Rattle.keyline.specs.Delegation.{cited, citationOf}
-use Rattle.keyline.specs.declared.delegation.Decoded.the-variants.{Accepted}
-use Rattle.keyline.proofs.Payload.Reading.{sound}
+use Rattle.codec.specs.Delegation.{cited, citationOf}
+use Rattle.codec.specs.declared.delegation.Decoded.the-variants.{Accepted}
+use Rattle.codec.proofs.Reading.{sound}
 use borrow.Author.Needs.{needs}
-use Rattle.keyline.proofs.delegation.citation.Statement.{statement}
-use Rattle.keyline.proofs.delegation.citation.Tie as tie
+use Rattle.codec.proofs.delegation.citation.Statement.{statement}
+use Rattle.codec.proofs.delegation.citation.Tie as tie
 
 decode-requires : tie.Need-decode-requires
 decode-requires c κs = search needs

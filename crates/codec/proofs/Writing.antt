@@ -8,18 +8,18 @@ use native.Mathlib.Omega.{arith}
 use lib.ListN.{length}
 use lib.Dec.{eqb, ltb}
 use borrow.Author.Tests.{ltb-false, eqb-true, eq-eqb, le-ltb}
 use Rattle.keyline.specs.Limits.{keyLength, digestLength, payloadLength}
 use Rattle.keyline.specs.Power.{levelOf}
 use Rattle.keyline.specs.Bytes.{front}
-use Rattle.keyline.specs.Delegation.{encoded, citationFits, encodeLeveled, encodeChecked, encodeAnswer, filled, afterEncode, Room}
+use Rattle.codec.specs.Delegation.{encoded, citationFits, encodeLeveled, encodeChecked, encodeAnswer, filled, afterEncode, Room}
 use Rattle.keyline.specs.declared.power.Power.{Power}
 use Rattle.keyline.specs.declared.power.Level.{Level}
 use Rattle.keyline.specs.declared.power.Level.the-variants.{Is, Unknown}
 use Rattle.keyline.specs.declared.refusal.Refusal.{Refusal}
 use Rattle.keyline.specs.declared.refusal.Refusal.the-variants.{BadLength}
-use Rattle.keyline.specs.declared.delegation.Encoded.{Encoded}
-use Rattle.keyline.specs.declared.delegation.Encoded.the-variants as answer
-use Rattle.keyline.proofs.Payload.Reading.{citationWith}
+use Rattle.codec.specs.declared.delegation.Encoded.{Encoded}
+use Rattle.codec.specs.declared.delegation.Encoded.the-variants as answer
+use Rattle.codec.proofs.Reading.{citationWith}
 
 -- a citation of either length passes, and none of another
 pub fits-with : (n : ℕ) (t : Bool) → n ≡ citationWith t → citationFits n ≡ true

@@ -1,10 +1,10 @@
 -- `write_parts` leaves the payload at the front: four runs, each put behind what stands there already.
 use denote.Ref.{now}
-use Rattle.keyline.specs.Delegation.{encoded}
+use Rattle.codec.specs.Delegation.{encoded}
 use Rattle.keyline.proofs.Fronts.{parts-front}
 use borrow.Author.Needs.{needs}
-use Rattle.keyline.proofs.delegation.write_parts.Statement.{statement}
-use Rattle.keyline.proofs.delegation.write_parts.Tie as tie
+use Rattle.codec.proofs.delegation.write_parts.Statement.{statement}
+use Rattle.codec.proofs.delegation.write_parts.Tie as tie
 
 copy-at-requires : tie.Need-copy-at-requires
 copy-at-requires c κs = search needs

@@ -4,19 +4,19 @@ use mathlib.Core.Path.{_≡_, refl, sym, ap, subst, _∙_}
 use mathlib.Core.Bool.{Bool}
 use mathlib.Core.List.{List}
 use lib.ListN.{length, take, drop}
 use Rattle.keyline.specs.Limits.{payloadLength}
 use Rattle.keyline.specs.Bytes.{front}
 use Rattle.keyline.specs.Power.{levelOf, byteOf}
-use Rattle.keyline.specs.Delegation.{audienceOf, subjectOf, decoded, citationOf, encoded, encodeAnswer, afterEncode}
+use Rattle.codec.specs.Delegation.{audienceOf, subjectOf, decoded, citationOf, encoded, encodeAnswer, afterEncode}
 use Rattle.keyline.specs.declared.power.Power.{Power}
 use Rattle.keyline.specs.declared.power.Level.the-variants.{Is}
-use Rattle.keyline.specs.declared.delegation.Decoded.the-variants.{Accepted}
-use Rattle.keyline.specs.declared.delegation.Encoded.the-variants as answer
+use Rattle.codec.specs.declared.delegation.Decoded.the-variants.{Accepted}
+use Rattle.codec.specs.declared.delegation.Encoded.the-variants as answer
 use Rattle.keyline.proofs.Levels.{level-byte}
 use Rattle.keyline.proofs.Fronts.{take-front, drop-front}
-use Rattle.keyline.proofs.Payload.Reading.{length-sum, sound}
-use Rattle.keyline.proofs.Payload.Writing.{written, writes, after-written}
-use Rattle.keyline.proofs.Payload.Parts.{HasParts, has-parts, parts}
+use Rattle.codec.proofs.Reading.{length-sum, sound}
+use Rattle.codec.proofs.Writing.{written, writes, after-written}
+use Rattle.codec.proofs.Parts.{HasParts, has-parts, parts}
 
 -- What was written reads back: the n bytes at the front are an accepted payload with the audience, subject, power byte and citation that the
 -- writer was handed, and the bytes behind them are as they were.

@@ -1,17 +1,17 @@
 // The delegation payload (delegation.rs): audience 32, subject 32, power 1, tag 1, then 32 bytes of citation if the tag is 1.
 // The reader looks at the caller's bytes where they lie; the writer tests everything before it writes the first byte.
-use crate::limits::CITED_LENGTH;
-use crate::limits::DIGEST_LENGTH;
-use crate::limits::KEY_LENGTH;
-use crate::limits::PAYLOAD_LENGTH;
-use crate::limits::POWER_AT;
-use crate::limits::TAG_AT;
-use crate::power::Level;
-use crate::power::Power;
-use crate::refusal::Refusal;
+use keyline::limits::CITED_LENGTH;
+use keyline::limits::DIGEST_LENGTH;
+use keyline::limits::KEY_LENGTH;
+use keyline::limits::PAYLOAD_LENGTH;
+use keyline::limits::POWER_AT;
+use keyline::limits::TAG_AT;
+use keyline::power::Level;
+use keyline::power::Power;
+use keyline::refusal::Refusal;
 ghost use mathlib.Core.Path.{_≡_};
 ghost use Rattle.keyline.specs.Bytes.{front};
-ghost use Rattle.keyline.specs.Delegation.{decoded, tagged, citationOf, encoded, tagFor, citationFits, encodeChecked, encodeAnswer, afterEncode, Room};
+ghost use Rattle.codec.specs.Delegation.{decoded, tagged, citationOf, encoded, tagFor, citationFits, encodeChecked, encodeAnswer, afterEncode, Room};
 
 // The tag's two values.
 const CITATION_ABSENT: u8 = 0;
@@ -38,7 +38,7 @@ pub fn decode(payload: &[u8]) -> Decoded
     }
     let b = payload[POWER_AT];
     let tag = payload[TAG_AT];
-    match crate::power::from_byte(b) {
+    match keyline::power::from_byte(b) {
         Level::Unknown => Decoded::Refused(Refusal::InvalidTag(b)),
         Level::Is(p) => decode_tag(payload.len(), p, tag),
     }
@@ -123,7 +123,7 @@ fn encode_check(audience: usize, subject: usize, power: u8, citation: usize, roo
     if !citation_fits(citation) {
         return Encoded::Refused(Refusal::BadLength(citation));
     }
-    match crate::power::from_byte(power) {
+    match keyline::power::from_byte(power) {
         Level::Unknown => Encoded::Refused(Refusal::InvalidTag(power)),
         Level::Is(_) => {
             let needed = PAYLOAD_LENGTH + citation;
@@ -151,11 +151,11 @@ fn write_parts(audience: &[u8], subject: &[u8], power: u8, citation: &[u8], out:
     requires { ⌜ Room (now audience) (now subject) (now citation) (now out) ⌝ }
     ensures { λ _. ⌜ now (out .exit) ≡ front (encoded (now (audience .entry)) (now (subject .entry)) power (now (citation .entry))) (now (out .entry)) ⌝ }
 {
-    crate::bytes::copy_at(out, 0, audience);
-    crate::bytes::copy_at(out, KEY_LENGTH, subject);
+    keyline::bytes::copy_at(out, 0, audience);
+    keyline::bytes::copy_at(out, KEY_LENGTH, subject);
     let power_and_tag = [power, tag_for(citation.len())];
-    crate::bytes::copy_at(out, POWER_AT, &power_and_tag);
-    crate::bytes::copy_at(out, PAYLOAD_LENGTH, citation);
+    keyline::bytes::copy_at(out, POWER_AT, &power_and_tag);
+    keyline::bytes::copy_at(out, PAYLOAD_LENGTH, citation);
 }
 
 // The tag before a citation of n bytes.

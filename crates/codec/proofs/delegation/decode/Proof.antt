@@ -1,10 +1,10 @@
 -- `decode` finds what the definition says: too short, an unknown power byte, or what the last checks find.
 use mathlib.Core.Path.{sym, _∙_}
 use borrow.Author.Tests.{lt-ltb, le-ltb}
-use Rattle.keyline.specs.Delegation.{decoded}
+use Rattle.codec.specs.Delegation.{decoded}
 use borrow.Author.Needs.{needs}
-use Rattle.keyline.proofs.delegation.decode.Statement.{statement}
-use Rattle.keyline.proofs.delegation.decode.Tie as tie
+use Rattle.codec.proofs.delegation.decode.Statement.{statement}
+use Rattle.codec.proofs.delegation.decode.Tie as tie
 
 returns : tie.Need-returns
 unfolding decoded

@@ -6,17 +6,17 @@ use mathlib.Core.List.{List, [], _∷_, _++_}
 use mathlib.Core.Path.{_≡_}
 use lib.ListN.{length, take, drop, getD}
 use lib.Dec.{eqb, ltb}
 use Rattle.keyline.specs.Limits.{keyLength, digestLength, powerAt, tagAt, payloadLength, citedLength}
 use Rattle.keyline.specs.Power.{levelOf}
 use Rattle.keyline.specs.Bytes.{front}
 use Rattle.keyline.specs.declared.power.Power.{Power}
 use Rattle.keyline.specs.declared.power.Level.{Level}
 use Rattle.keyline.specs.declared.power.Level.the-variants.{Is, Unknown}
 use Rattle.keyline.specs.declared.refusal.Refusal.the-variants.{BadLength, UnexpectedEnd, TrailingBytes, InvalidTag, SmallBuffer}
-use Rattle.keyline.specs.declared.delegation.Decoded.{Decoded}
-use Rattle.keyline.specs.declared.delegation.Decoded.the-variants.{Accepted, Refused}
-use Rattle.keyline.specs.declared.delegation.Encoded.{Encoded}
-use Rattle.keyline.specs.declared.delegation.Encoded.the-variants as answer
+use Rattle.codec.specs.declared.delegation.Decoded.{Decoded}
+use Rattle.codec.specs.declared.delegation.Decoded.the-variants.{Accepted, Refused}
+use Rattle.codec.specs.declared.delegation.Encoded.{Encoded}
+use Rattle.codec.specs.declared.delegation.Encoded.the-variants as answer
 
 -- "audience 32, subject 32, power 1, tag 1, then 32 bytes of citation if the tag is 1."
 abbrev pub audienceOf : List ℕ → List ℕ

@@ -1,8 +1,8 @@
 -- `tag_for` is the tag before a citation of so many bytes.
 use borrow.Author.Tests.{eq-eqb, ne-eqb}
-use Rattle.keyline.specs.Delegation.{tagFor}
-use Rattle.keyline.proofs.delegation.tag_for.Statement.{statement}
-use Rattle.keyline.proofs.delegation.tag_for.Tie as tie
+use Rattle.codec.specs.Delegation.{tagFor}
+use Rattle.codec.proofs.delegation.tag_for.Statement.{statement}
+use Rattle.codec.proofs.delegation.tag_for.Tie as tie
 
 returns : tie.Need-returns
 unfolding tagFor

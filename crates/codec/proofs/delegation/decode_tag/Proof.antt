@@ -1,8 +1,8 @@
 -- `decode_tag` makes the reader's last checks: each return is the definition at the tests that led there.
 use borrow.Author.Tests.{eq-eqb, ne-eqb, lt-ltb, le-ltb}
-use Rattle.keyline.specs.Delegation.{tagged}
-use Rattle.keyline.proofs.delegation.decode_tag.Statement.{statement}
-use Rattle.keyline.proofs.delegation.decode_tag.Tie as tie
+use Rattle.codec.specs.Delegation.{tagged}
+use Rattle.codec.proofs.delegation.decode_tag.Statement.{statement}
+use Rattle.codec.proofs.delegation.decode_tag.Tie as tie
 
 returns : tie.Need-returns
 unfolding tagged

@@ -1,8 +1,8 @@
 -- `citation_fits` says whether a citation is absent or a digest long.
 use borrow.Author.Tests.{eq-eqb, ne-eqb}
-use Rattle.keyline.specs.Delegation.{citationFits}
-use Rattle.keyline.proofs.delegation.citation_fits.Statement.{statement}
-use Rattle.keyline.proofs.delegation.citation_fits.Tie as tie
+use Rattle.codec.specs.Delegation.{citationFits}
+use Rattle.codec.proofs.delegation.citation_fits.Statement.{statement}
+use Rattle.codec.proofs.delegation.citation_fits.Tie as tie
 
 returns : tie.Need-returns
 unfolding citationFits

@@ -9,15 +9,15 @@ use native.Mathlib.Nat.{le-antisymm}
 use lib.ListN.{length}
 use lib.Dec.{eqb, ltb}
 use borrow.Author.Tests.{ltb-false, eqb-true}
 use Rattle.keyline.specs.Limits.{digestLength, payloadLength, citedLength}
 use Rattle.keyline.specs.Power.{levelOf}
-use Rattle.keyline.specs.Delegation.{powerByteOf, tagByteOf, citationAbsent, citationPresent, tagged, leveled, decoded}
+use Rattle.codec.specs.Delegation.{powerByteOf, tagByteOf, citationAbsent, citationPresent, tagged, leveled, decoded}
 use Rattle.keyline.specs.declared.power.Power.{Power}
 use Rattle.keyline.specs.declared.power.Level.{Level}
 use Rattle.keyline.specs.declared.power.Level.the-variants.{Is, Unknown}
 use Rattle.keyline.specs.declared.refusal.Refusal.{Refusal}
 use Rattle.keyline.specs.declared.refusal.Refusal.the-variants.{UnexpectedEnd, TrailingBytes, InvalidTag}
-use Rattle.keyline.specs.declared.delegation.Decoded.the-variants.{Accepted, Refused}
+use Rattle.codec.specs.declared.delegation.Decoded.the-variants.{Accepted, Refused}
 
 -- the tag byte that says t, and the lengths of the citation and of the payload that go with it
 abbrev pub tagWith : Bool → ℕ

@@ -1,10 +1,10 @@
 -- `encode` answers what the checks say, and writes only where they all pass.
 use mathlib.Core.Path.{sym}
 use denote.Ref.{now}
-use Rattle.keyline.proofs.Payload.Writing.{room-of, after-written, after-refused}
+use Rattle.codec.proofs.Writing.{room-of, after-written, after-refused}
 use borrow.Author.Needs.{needs}
-use Rattle.keyline.proofs.delegation.encode.Statement.{statement}
-use Rattle.keyline.proofs.delegation.encode.Tie as tie
+use Rattle.codec.proofs.delegation.encode.Statement.{statement}
+use Rattle.codec.proofs.delegation.encode.Tie as tie
 
 encode-check-requires : tie.Need-encode-check-requires
 encode-check-requires c κs = search needs
