@@ -1,5 +1,4 @@
 -- What is proved of scripts: how requests and replies stand in their buffers, and that what a script answers is settled (Settled).
-pub mod Reading
 pub mod Parts
 pub mod Measuring
 pub mod Performing

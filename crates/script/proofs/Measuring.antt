@@ -8,12 +8,12 @@ use lib.Seq.{take-all, drop-drop}
 use borrow.Rule.Slice.PartMut.{midOf}
 use Rattle.keyline.specs.declared.refusal.Refusal.{Refusal}
 use Rattle.runs.specs.Bytes.{Bytes}
-use Rattle.script.specs.Reply.{headLength}
-use Rattle.script.specs.Request.{headerLength, longest, otherLimit, requestOf, lengthOf, needs, Whole, Bounded, Script, ended, next, Malformed, here, later, StepOf, whole, refused}
+use Rattle.wire.specs.Reply.{headLength}
+use Rattle.wire.specs.Request.{headerLength, longest, otherLimit, requestOf, lengthOf, needs, Whole, Bounded, Script, ended, next, Malformed, here, later, StepOf, whole, refused}
 use Rattle.script.specs.Run.{MeasuredAs}
 use Rattle.script.specs.Run as run
-use Rattle.script.specs.declared.request.Step.{Step}
-use Rattle.script.specs.declared.request.Step.the-variants as step
+use Rattle.wire.specs.declared.request.Step.{Step}
+use Rattle.wire.specs.declared.request.Step.the-variants as step
 use Rattle.script.specs.declared.run.Measured.the-variants as measured
 
 -- the rest of s, as it is lent

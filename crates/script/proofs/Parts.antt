@@ -9,16 +9,16 @@ use borrow.Rule.Slice.PartMut.{putMid, midOf}
 use Rattle.keyline.specs.Bytes.{put, putWithin}
 use Rattle.keyline.proofs.Fronts.{put-within}
 use Rattle.runs.specs.Bytes.{Bytes}
-use Rattle.script.specs.Reply.{headLength, headOf}
-use Rattle.script.specs.Request.{otherLimit, headerLength, requestOf, firstOf, secondOf, thirdOf}
-use Rattle.script.specs.declared.request.Request.{Request}
-use Rattle.script.specs.declared.operation.Change.{Change}
-use Rattle.script.proofs.Reading.{first-lent, second-lent, third-lent}
+use Rattle.wire.specs.Reply.{headLength, headOf}
+use Rattle.wire.specs.Request.{otherLimit, headerLength, requestOf, firstOf, secondOf, thirdOf}
+use Rattle.wire.specs.declared.request.Request.{Request}
+use Rattle.wire.specs.declared.operation.Change.{Change}
+use Rattle.wire.proofs.Reading.{first-lent, second-lent, third-lent}
 use Rattle.script.specs.Run.{roomIn, zeros, inPlace, StateAnswers, StateReplied, state-replied, EvaluatedAnswers, EvaluatedReplied, evaluated-replied, Changes, ChangeReplied, change-replied}
 use Rattle.tables.specs.Committed.{Committed}
-use Rattle.script.specs.declared.operation.OfState.{OfState}
-use Rattle.script.specs.declared.operation.OfEvaluated.{OfEvaluated}
-use Rattle.script.specs.declared.reply.Reply.{Reply}
+use Rattle.wire.specs.declared.operation.OfState.{OfState}
+use Rattle.wire.specs.declared.operation.OfEvaluated.{OfEvaluated}
+use Rattle.wire.specs.declared.reply.Reply.{Reply}
 
 pub head-long : (r : Reply) → length (headOf r) ≡ headLength
 unfolding headOf

@@ -12,22 +12,22 @@ use Rattle.keyline_memory.specs.State.{heldIn, GoodState}
 use Rattle.queries.specs.Evaluated.{heldBy, GoodEvaluated}
 use Rattle.keyline_memory.specs.declared.state.State.{State}
 use Rattle.queries.specs.declared.evaluated.Evaluated.{Evaluated}
-use Rattle.script.specs.Reply.{headLength, valued}
-use Rattle.script.specs.Request.{headerLength, requestOf, lengthOf, needs, firstOf, secondOf, thirdOf, Whole, Script, Malformed, NextOf, Asked}
-use Rattle.script.specs.Request as request
+use Rattle.wire.specs.Reply.{headLength, valued}
+use Rattle.wire.specs.Request.{headerLength, requestOf, lengthOf, needs, firstOf, secondOf, thirdOf, Whole, Script, Malformed, NextOf, Asked}
+use Rattle.wire.specs.Request as request
 use Rattle.script.specs.Run.{roomIn, zeros, inPlace, Replied, ChangeReplied, StateReplied, EvaluatedReplied, Runs, scriptLimit, MeasuredAs, RanAs}
 use Rattle.script.specs.Run as run
 use Rattle.keyline.specs.declared.refusal.Refusal.{Refusal}
-use Rattle.script.specs.declared.request.Request.{Request}
+use Rattle.wire.specs.declared.request.Request.{Request}
 use Rattle.script.specs.declared.run.Measured.{Measured}
 use Rattle.script.specs.declared.run.Measured.the-variants as measured
 use Rattle.script.specs.declared.run.Ran.the-variants as ran
-use Rattle.script.specs.Operation.{isKnown}
-use Rattle.script.specs.declared.operation.Operation.{Operation}
-use Rattle.script.specs.declared.operation.Change.{Change}
-use Rattle.script.specs.declared.operation.OfState.{OfState}
-use Rattle.script.specs.declared.operation.OfEvaluated.{OfEvaluated}
-use Rattle.script.specs.declared.operation.Operation.the-variants as operation
+use Rattle.wire.specs.Operation.{isKnown}
+use Rattle.wire.specs.declared.operation.Operation.{Operation}
+use Rattle.wire.specs.declared.operation.Change.{Change}
+use Rattle.wire.specs.declared.operation.OfState.{OfState}
+use Rattle.wire.specs.declared.operation.OfEvaluated.{OfEvaluated}
+use Rattle.wire.specs.declared.operation.Operation.the-variants as operation
 use Rattle.script.proofs.Measuring.{rest-lent}
 use mathlib.Core.Bool.{true, false}
 

@@ -10,16 +10,16 @@ use Rattle.keyline.specs.declared.refusal.Refusal.{Refusal}
 use Rattle.runs.specs.Bytes.{Bytes}
 use Rattle.tables.specs.Committed.{Committed, nothing}
 use Rattle.answers.proofs.Settled as calls
-use Rattle.script.specs.Operation.{isKnown}
-use Rattle.script.specs.Request.{requestOf, Whole, Script, ended, next, NoRequest, header, unknown, arguments, Malformed, here, later}
-use Rattle.script.specs.Reply as reply
+use Rattle.wire.specs.Operation.{isKnown}
+use Rattle.wire.specs.Request.{requestOf, Whole, Script, ended, next, NoRequest, header, unknown, arguments, Malformed, here, later}
+use Rattle.wire.specs.Reply as reply
 use Rattle.script.specs.Run.{Changes, StateAnswers, EvaluatedAnswers, inPlace, StateReplied, state-replied, EvaluatedReplied, evaluated-replied, ChangeReplied, change-replied, Replied, Runs, RanAs}
 use Rattle.script.specs.Run as run
-use Rattle.script.specs.declared.operation.Operation.{Operation}
-use Rattle.script.specs.declared.operation.OfState.{OfState}
-use Rattle.script.specs.declared.operation.OfEvaluated.{OfEvaluated}
-use Rattle.script.specs.declared.operation.Change.{Change}
-use Rattle.script.specs.declared.reply.Reply.{Reply}
+use Rattle.wire.specs.declared.operation.Operation.{Operation}
+use Rattle.wire.specs.declared.operation.OfState.{OfState}
+use Rattle.wire.specs.declared.operation.OfEvaluated.{OfEvaluated}
+use Rattle.wire.specs.declared.operation.Change.{Change}
+use Rattle.wire.specs.declared.reply.Reply.{Reply}
 use Rattle.script.specs.declared.run.Ran.{Ran}
 
 -- ## One request

@@ -1,4 +1,1 @@
-pub mod Operation
-pub mod Reply
-pub mod Request
 pub mod Run

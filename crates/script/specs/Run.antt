@@ -21,19 +21,19 @@ use Rattle.answers.specs.Answers.{PositivePower, EffectivePower, ConveyedPower,
 use Rattle.answers.specs.declared.answer.Powered.{Powered}
 use Rattle.answers.specs.declared.answer.Liveness.{Liveness}
 use Rattle.answers.specs.declared.answer.Stood.{Stood}
-use Rattle.script.specs.Reply as reply
-use Rattle.script.specs.Reply.{headLength, headOf}
-use Rattle.script.specs.Request.{requestOf, firstOf, secondOf, thirdOf, Whole, Script, Malformed}
-use Rattle.script.specs.Request as request
-use Rattle.script.specs.declared.operation.Operation.{Operation}
-use Rattle.script.specs.declared.operation.Operation.the-variants as operation
-use Rattle.script.specs.declared.operation.Change.{Change}
-use Rattle.script.specs.declared.operation.Change.the-variants as change
-use Rattle.script.specs.declared.operation.OfState.{OfState}
-use Rattle.script.specs.declared.operation.OfState.the-variants as state
-use Rattle.script.specs.declared.operation.OfEvaluated.{OfEvaluated}
-use Rattle.script.specs.declared.operation.OfEvaluated.the-variants as evaluated
-use Rattle.script.specs.declared.reply.Reply.{Reply}
+use Rattle.wire.specs.Reply as reply
+use Rattle.wire.specs.Reply.{headLength, headOf}
+use Rattle.wire.specs.Request.{requestOf, firstOf, secondOf, thirdOf, Whole, Script, Malformed}
+use Rattle.wire.specs.Request as request
+use Rattle.wire.specs.declared.operation.Operation.{Operation}
+use Rattle.wire.specs.declared.operation.Operation.the-variants as operation
+use Rattle.wire.specs.declared.operation.Change.{Change}
+use Rattle.wire.specs.declared.operation.Change.the-variants as change
+use Rattle.wire.specs.declared.operation.OfState.{OfState}
+use Rattle.wire.specs.declared.operation.OfState.the-variants as state
+use Rattle.wire.specs.declared.operation.OfEvaluated.{OfEvaluated}
+use Rattle.wire.specs.declared.operation.OfEvaluated.the-variants as evaluated
+use Rattle.wire.specs.declared.reply.Reply.{Reply}
 use Rattle.script.specs.declared.run.Measured.{Measured}
 use Rattle.script.specs.declared.run.Measured.the-variants as measured
 use Rattle.script.specs.declared.run.Ran.{Ran}

@@ -1,23 +1,23 @@
 // A reply in its own part of the answers: the head, the first room, the second room. The first room is lent from the middle; the second
 // begins as zeros in a buffer of its own, since two parts of one buffer are not lent at once.
 use crate::ask;
-use crate::operation::Change;
-use crate::operation::OfEvaluated;
-use crate::operation::OfState;
-use crate::reply;
-use crate::reply::HEAD;
-use crate::reply::Reply;
-use crate::request::HEADER;
-use crate::request::Request;
 use keyline_memory::state::State;
 use queries::evaluated::Evaluated;
+use wire::operation::Change;
+use wire::operation::OfEvaluated;
+use wire::operation::OfState;
+use wire::reply;
+use wire::reply::HEAD;
+use wire::reply::Reply;
+use wire::request::HEADER;
+use wire::request::Request;
 ghost use mathlib.Core.Path.{_≡_};
 ghost use Prim.Native.Nat.{_+_, _≤_};
 ghost use lib.ListN.{length};
 ghost use Rattle.keyline_memory.specs.State.{heldIn, GoodState};
 ghost use Rattle.queries.specs.Evaluated.{heldBy, GoodEvaluated};
-ghost use Rattle.script.specs.Reply.{headLength, valued};
-ghost use Rattle.script.specs.Request.{Asked, otherLimit, firstOf, secondOf, thirdOf};
+ghost use Rattle.wire.specs.Reply.{headLength, valued};
+ghost use Rattle.wire.specs.Request.{Asked, otherLimit, firstOf, secondOf, thirdOf};
 ghost use Rattle.script.specs.Run.{roomIn, zeros, inPlace, ChangeReplied, StateReplied, EvaluatedReplied};
 
 // The largest second room.

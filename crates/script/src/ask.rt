@@ -1,17 +1,17 @@
 // Each operation as a call of State or Evaluated on the request's arguments and rooms.
-use crate::operation::Change;
-use crate::operation::OfEvaluated;
-use crate::operation::OfState;
-use crate::reply;
-use crate::reply::Reply;
 use keyline_memory::state::Inserted;
 use keyline_memory::state::State;
 use queries::evaluated::Evaluated;
+use wire::operation::Change;
+use wire::operation::OfEvaluated;
+use wire::operation::OfState;
+use wire::reply;
+use wire::reply::Reply;
 ghost use mathlib.Core.Path.{_≡_};
 ghost use Rattle.keyline_memory.specs.State.{heldIn, GoodState};
 ghost use Rattle.queries.specs.Evaluated.{heldBy, GoodEvaluated};
 ghost use Rattle.script.specs.Run.{Changes, StateAnswers, EvaluatedAnswers};
-ghost use Rattle.script.specs.Reply.{valued, inserted};
+ghost use Rattle.wire.specs.Reply.{valued, inserted};
 ghost use Rattle.tables.specs.Committed.{nothing};
 
 pub struct Changed {

@@ -1,18 +1,18 @@
 // A whole script: measured first, so that a refused one touches nothing, then performed request by request.
 use crate::answer;
-use crate::operation::Operation;
-use crate::reply::HEAD;
-use crate::request;
-use crate::request::HEADER;
-use crate::request::Step;
 use keyline::refusal::Refusal;
 use keyline_memory::state::State;
 use queries::evaluated::Evaluated;
+use wire::operation::Operation;
+use wire::reply::HEAD;
+use wire::request;
+use wire::request::HEADER;
+use wire::request::Step;
 ghost use mathlib.Core.Path.{_≡_};
 ghost use Prim.Native.Nat.{_≤_};
 ghost use lib.ListN.{length};
 ghost use Rattle.tables.specs.Committed.{nothing};
-ghost use Rattle.script.specs.Request.{Script};
+ghost use Rattle.wire.specs.Request.{Script};
 ghost use Rattle.script.specs.Run.{scriptLimit, Runs, MeasuredAs, RanAs};
 
 // The longest script.

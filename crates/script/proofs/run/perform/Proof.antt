@@ -4,7 +4,7 @@ use mathlib.Core.Path.{sym, subst}
 use native.Mathlib.Omega.{arith}
 use lib.ListN.{length, length-drop}
 use denote.Ref.{now}
-use Rattle.script.specs.Request.{Script}
+use Rattle.wire.specs.Request.{Script}
 use Rattle.script.proofs.Measuring.{rest-lent}
 use Rattle.script.proofs.Performing.{Performing, begin, bounds, asked, changed, worked, asked-state, asked-evaluated, says, ending}
 use borrow.Author.Needs.{needs}

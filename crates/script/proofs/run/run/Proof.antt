@@ -1,7 +1,7 @@
 -- The checks in their order, then the pass that cannot fail.
 use mathlib.Core.Path.{subst}
 use denote.Ref.{now}
-use Rattle.script.specs.Request.{Script}
+use Rattle.wire.specs.Request.{Script}
 use Rattle.script.specs.Run as run
 use Rattle.script.proofs.Performing.{needs-of, fault-of, front-long, run-all}
 use borrow.Author.Needs.{needs}
