@@ -34,3 +34,12 @@ fn a_program_in_c_runs_the_worked_example() {
         assert!(said.lines().all(|line| text.contains(line)), "the replies as the example prints them");
     }
 }
+
+#[test]
+fn the_readme_has_lines_of_the_program_in_c() {
+    let package = Path::new(env!("CARGO_MANIFEST_DIR"));
+    let readme = fs::read_to_string(package.join("../../README.md")).expect("it is there");
+    let block = readme.split("```c\n").nth(1).and_then(|rest| rest.split("\n```").next()).expect("a block of C");
+    let program = include_str!("example.c").lines().map(str::trim_start).collect::<Vec<_>>().join("\n");
+    assert!(program.contains(block), "README.md shows other lines than tests/example.c has");
+}
