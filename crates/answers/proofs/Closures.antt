@@ -21,8 +21,8 @@ use Rattle.tables.specs.Committed.{Delegation, Revocation}
 use Rattle.tables.specs.Columns.{delegationAt, revocationAt}
 use Rattle.tables.specs.Store.{committed, GoodStore}
 use Rattle.tables.specs.declared.store.Store.{Store}
-use Rattle.evaluation.specs.Places.{places}
-use Rattle.evaluation.specs.declared.Facts.{Facts}
+use Rattle.coverage.specs.Places.{places}
+use Rattle.coverage.specs.declared.Facts.{Facts}
 use Rattle.answers.specs.Graph.{graph, store, ByDigest, RevByDigest}
 use Rattle.answers.specs.Facts.{FactsOf}
 use Rattle.answers.specs.Answers.{ClosureIs}

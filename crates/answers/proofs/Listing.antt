@@ -24,8 +24,8 @@ use Rattle.lists.specs.Lists.{bothAnswer, bothBuffer}
 use Rattle.lists.specs.Marks.{chosenRuns}
 use Rattle.lists.specs.declared.write.BothListed.{BothListed}
 use Rattle.lists.specs.declared.write.BothListed.the-variants as two
-use Rattle.evaluation.specs.Places.{places}
-use Rattle.evaluation.specs.declared.Facts.{Facts}
+use Rattle.coverage.specs.Places.{places}
+use Rattle.coverage.specs.declared.Facts.{Facts}
 use Rattle.answers.specs.Facts.{FactsOf}
 use Rattle.answers.specs.Marks.{InNodes, Naming}
 use Rattle.answers.specs.Answers as says

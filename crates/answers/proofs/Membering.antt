@@ -24,8 +24,8 @@ use Rattle.lists.specs.declared.write.Listed.the-variants as listed-as
 use Rattle.lists.proofs.ChosenLaws.{stand}
 use Rattle.tables.specs.Store.{committed, GoodStore}
 use Rattle.tables.specs.declared.store.Store.{Store}
-use Rattle.evaluation.specs.Places.{places}
-use Rattle.evaluation.specs.declared.Facts.{Facts}
+use Rattle.coverage.specs.Places.{places}
+use Rattle.coverage.specs.declared.Facts.{Facts}
 use Rattle.answers.specs.Graph.{graph}
 use Rattle.answers.specs.Facts.{FactsOf}
 use Rattle.answers.specs.Marks.{isMember, MemberWord, MemberMarks, Letters, letterAt}

@@ -26,8 +26,8 @@ use Rattle.keyline.specs.Limits.{keyLimit}
 use Rattle.tables.specs.Committed.{Delegation}
 use Rattle.tables.specs.Store.{committed, GoodStore}
 use Rattle.tables.specs.declared.store.Store.{Store}
-use Rattle.evaluation.specs.Places.{places}
-use Rattle.evaluation.specs.declared.Facts.{Facts}
+use Rattle.coverage.specs.Places.{places}
+use Rattle.coverage.specs.declared.Facts.{Facts}
 use Rattle.answers.specs.Graph.{graph}
 use Rattle.answers.specs.Facts.{FactsOf}
 use Rattle.answers.proofs.Places.{InUse, keyAt, table}

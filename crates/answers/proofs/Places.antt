@@ -23,9 +23,9 @@ use Rattle.tables.specs.Columns.{delegationAt, revocationAt, powerOf}
 use Rattle.tables.specs.Store.{committed, GoodStore}
 use Rattle.tables.specs.declared.store.Store.{Store}
 use Rattle.tables.proofs.ContentLaws.{rank-power}
-use Rattle.evaluation.specs.Arrays.{Any}
-use Rattle.evaluation.specs.Places.{places, Names}
-use Rattle.evaluation.specs.declared.Facts.{Facts}
+use Rattle.coverage.specs.Arrays.{Any}
+use Rattle.coverage.specs.Places.{places, Names}
+use Rattle.coverage.specs.declared.Facts.{Facts}
 use Rattle.answers.specs.Graph.{graph, store}
 use Rattle.answers.specs.Facts.{FactsOf}
 use Rattle.answers.proofs.Equality.{same-delegation}

@@ -9,7 +9,7 @@ use Rattle.runs.specs.Bytes.{Bytes, runAt}
 use Rattle.runs.specs.Members.{place}
 use Rattle.runs.specs.Table.{runs}
 use Rattle.tables.specs.declared.store.Store.{Store}
-use Rattle.evaluation.specs.declared.Facts.{Facts}
+use Rattle.coverage.specs.declared.Facts.{Facts}
 
 -- target has, for each of the first m runs of `revoked`, its place among the n digests: n where it is none of them
 abbrev pub Targets : Bytes → ℕ → Bytes → ℕ → List ℕ → Type 0

@@ -1,5 +1,5 @@
 // What the tables hold, at places: the columns as they are, and for each revocation the place of the delegation that it names.
-use evaluation::Facts;
+use coverage::Facts;
 use keyline::limits::DELEGATION_LIMIT;
 use keyline::limits::REVOCATION_LIMIT;
 use runs::bytes::RUN_LENGTH;
@@ -12,7 +12,7 @@ ghost use Rattle.runs.specs.Bytes.{runLength};
 ghost use Rattle.runs.specs.Table.{GoodRuns};
 ghost use Rattle.keyline.specs.Limits.{delegationLimit, revocationLimit};
 ghost use Rattle.tables.specs.Store.{GoodStore};
-ghost use Rattle.evaluation.specs.Places.{Fit};
+ghost use Rattle.coverage.specs.Places.{Fit};
 ghost use Rattle.answers.specs.Facts.{FactsOf, Targets};
 
 // The place of the delegation that each of the first m revocations names; n where no held one has the digest.

@@ -5,10 +5,10 @@ use Rattle.rules.specs.Rules as rules
 use Rattle.rules.specs.Rules.{PositiveIs}
 use Rattle.rules.specs.Rows.{levelOf}
 use Rattle.search.specs.Sets.{Word}
-use Rattle.evaluation.specs.Rows.{cell}
-use Rattle.evaluation.specs.Places.{places, Fit, Subject}
-use Rattle.evaluation.specs.Coverage.{Nets}
-use Rattle.evaluation.specs.Caps.{Capped}
+use Rattle.coverage.specs.Rows.{cell}
+use Rattle.coverage.specs.Places.{places, Fit, Subject}
+use Rattle.coverage.specs.Coverage.{Nets}
+use Rattle.caps.specs.Caps.{Capped}
 use Rattle.evaluation.specs.declared.Evaluation.{Evaluation}
 use Rattle.evaluation.specs.declared.standing.Standing.{Standing}
 use Rattle.evaluation.specs.declared.standing.Standing.the-variants.{Live, Revoked, Unsupported}

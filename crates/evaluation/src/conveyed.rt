@@ -1,15 +1,15 @@
 // What a live delegation conveys: its cap if it is covered, else the lesser of its power and its issuer's effective level; otherwise nothing.
 
 use crate::Evaluation;
-use crate::caps::least;
 use crate::levels::levels;
+use caps::least;
 use places::DelegationPlace;
 use places::KeyPlace;
 use places::wide;
 ghost use Prim.Native.Nat.{_<_};
 ghost use Rattle.rules.specs.Rules.{ConveyedIs};
 ghost use Rattle.rules.specs.Rows.{levelOf};
-ghost use Rattle.evaluation.specs.Places.{places};
+ghost use Rattle.coverage.specs.Places.{places};
 ghost use Rattle.evaluation.specs.Result.{Evaluated};
 
 pub fn conveyed_power(v: Evaluation, delegation: DelegationPlace) -> u8

@@ -9,7 +9,7 @@ ghost use lib.ListN.{getD};
 ghost use Rattle.places.specs.Limits.{keyLimit};
 ghost use Rattle.rules.specs.Rules.{EffectiveIs};
 ghost use Rattle.rules.specs.Rows.{levelOf};
-ghost use Rattle.evaluation.specs.Places.{places};
+ghost use Rattle.coverage.specs.Places.{places};
 ghost use Rattle.evaluation.specs.Result.{Evaluated};
 
 // A byte for each key.

@@ -7,7 +7,7 @@ ghost use Prim.Native.Nat.{_<_};
 ghost use Rattle.places.specs.Limits.{keyLimit};
 ghost use Rattle.rules.specs.Rules.{Node};
 ghost use Rattle.search.specs.Sets.{Word};
-ghost use Rattle.evaluation.specs.Places.{places};
+ghost use Rattle.coverage.specs.Places.{places};
 ghost use Rattle.evaluation.specs.Result.{Evaluated};
 
 pub fn nodes(v: Evaluation, subject: KeyPlace) -> u64

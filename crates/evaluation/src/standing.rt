@@ -9,8 +9,8 @@ ghost use mathlib.Core.Path.{_≡_};
 ghost use Rattle.places.specs.Limits.{revocationLimit};
 ghost use Rattle.rules.specs.Rules.{StandingIs};
 ghost use Rattle.search.specs.Sets.{Says};
-ghost use Rattle.evaluation.specs.Coverage.{NamedBelow};
-ghost use Rattle.evaluation.specs.Places.{places};
+ghost use Rattle.coverage.specs.Coverage.{NamedBelow};
+ghost use Rattle.coverage.specs.Places.{places};
 ghost use Rattle.evaluation.specs.Result.{Evaluated, standingOf};
 
 pub enum Standing {

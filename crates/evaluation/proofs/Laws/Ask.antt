@@ -18,18 +18,18 @@ use Rattle.rules.specs.Rows.{levelOf}
 use Rattle.rules.proofs.Derivations.Rows.{self-answer, no-subject}
 use Rattle.search.specs.Sets.{Word}
 use Rattle.search.specs.Levels.{height, Found}
-use Rattle.evaluation.specs.Arrays.{Below, Filled}
-use Rattle.evaluation.specs.Rows.{cell, Cells}
-use Rattle.evaluation.specs.Places.{places, Fit, Grades, Names, Subject, Over}
-use Rattle.evaluation.specs.Coverage.{NamedBelow}
-use Rattle.evaluation.specs.Caps.{level-of, Capped}
+use Rattle.coverage.specs.Arrays.{Below, Filled}
+use Rattle.coverage.specs.Rows.{cell, Cells}
+use Rattle.coverage.specs.Places.{places, Fit, Grades, Names, Subject, Over}
+use Rattle.coverage.specs.Coverage.{NamedBelow}
+use Rattle.caps.specs.Caps.{level-of, Capped}
 use Rattle.evaluation.specs.Result.{Evaluated}
-use Rattle.evaluation.specs.declared.Facts.{Facts}
+use Rattle.coverage.specs.declared.Facts.{Facts}
 use Rattle.evaluation.specs.declared.Evaluation.{Evaluation}
-use Rattle.evaluation.proofs.Laws.Flags.{no-bit}
-use Rattle.evaluation.proofs.Laws.Fill.{filled-held}
-use Rattle.evaluation.proofs.Laws.Seek.{found-as, answer-holds, answer-most}
-use Rattle.evaluation.proofs.Laws.Caps.{pred-is}
+use Rattle.coverage.proofs.Laws.Flags.{no-bit}
+use Rattle.coverage.proofs.Laws.Fill.{filled-held}
+use Rattle.coverage.proofs.Laws.Seek.{found-as, answer-holds, answer-most}
+use Rattle.caps.proofs.Laws.Caps.{pred-is}
 
 -- ---- positive
 

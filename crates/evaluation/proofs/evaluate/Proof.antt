@@ -7,11 +7,11 @@ use denote.Ref.{now}
 use Rattle.rules.specs.Rules.{Positive}
 use Rattle.search.specs.Levels.{Found}
 use Rattle.search.proofs.Laws.Complete.{sound-zeros}
-use Rattle.evaluation.specs.Places.{places}
-use Rattle.evaluation.specs.Coverage.{Nets}
-use Rattle.evaluation.proofs.Laws.Fill.{filled-map}
-use Rattle.evaluation.proofs.Laws.Seek.{seen, ready, found-over, found-less}
-use Rattle.evaluation.proofs.Laws.Cover.{net-is}
+use Rattle.coverage.specs.Places.{places}
+use Rattle.coverage.specs.Coverage.{Nets}
+use Rattle.coverage.proofs.Laws.Fill.{filled-map}
+use Rattle.coverage.proofs.Laws.Seek.{seen, ready, found-over, found-less}
+use Rattle.coverage.proofs.Laws.Cover.{net-is}
 use Rattle.evaluation.proofs.Laws.Ask.{grades-all, found-positive, reaches-is}
 use borrow.Author.Needs.{needs}
 use Rattle.evaluation.proofs.evaluate.Statement.{statement}

@@ -6,8 +6,8 @@ use lib.ListN.{getD}
 use Rattle.places.specs.Limits.{keyLimit, delegationLimit}
 use Rattle.rules.specs.Rules.{ConveyedIs, EffectiveIs}
 use Rattle.rules.specs.Rows.{levelOf}
-use Rattle.evaluation.specs.Places.{places}
-use Rattle.evaluation.proofs.Laws.Live.{net-covered, live-net}
+use Rattle.coverage.specs.Places.{places}
+use Rattle.coverage.proofs.Laws.Net.{net-covered, live-net}
 use Rattle.evaluation.proofs.Laws.Ask.{conveyed-none, conveyed-cap, conveyed-plain}
 use borrow.Author.Needs.{needs}
 use Rattle.evaluation.proofs.conveyed.conveyed_power.Statement.{statement}

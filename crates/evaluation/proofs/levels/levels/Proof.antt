@@ -2,8 +2,8 @@
 use mathlib.Core.Path.{refl}
 use denote.Ref.{now}
 use Rattle.search.proofs.Laws.Complete.{sound-zeros}
-use Rattle.evaluation.proofs.Laws.Seek.{seen, ready, found-over, found-less}
-use Rattle.evaluation.proofs.Laws.Caps.{grades-live}
+use Rattle.coverage.proofs.Laws.Seek.{seen, ready, found-over, found-less}
+use Rattle.caps.proofs.Laws.Caps.{grades-live}
 use Rattle.evaluation.proofs.Laws.Ask.{effective-is}
 use borrow.Author.Needs.{needs}
 use Rattle.evaluation.proofs.levels.levels.Statement.{statement}

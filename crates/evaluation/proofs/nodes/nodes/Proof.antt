@@ -6,9 +6,9 @@ use native.Mathlib.Omega.{arith}
 use Rattle.keyset.specs.Word.{bit}
 use Rattle.places.specs.Limits.{keyLimit}
 use Rattle.search.specs.Sets.{Word}
-use Rattle.evaluation.specs.Arrays.{Below}
-use Rattle.evaluation.specs.Rows.{cell}
-use Rattle.evaluation.proofs.Laws.Fill.{below-none, below-more, below-skip}
+use Rattle.coverage.specs.Arrays.{Below}
+use Rattle.coverage.specs.Rows.{cell}
+use Rattle.coverage.proofs.Laws.Fill.{below-none, below-more, below-skip}
 use Rattle.evaluation.proofs.Laws.Ask.{nodes-are}
 use Rattle.evaluation.proofs.nodes.nodes.Statement.{statement}
 use Rattle.evaluation.proofs.nodes.nodes.Tie as tie

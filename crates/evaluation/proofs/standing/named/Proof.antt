@@ -5,7 +5,7 @@ use mathlib.Core.Path.{_≡_, refl, sym, _∙_}
 use native.Mathlib.Omega.{arith}
 use borrow.Author.Count.{below-more}
 use lib.ListN.{getD}
-use Rattle.evaluation.proofs.Laws.Flags.{clash}
+use Rattle.coverage.proofs.Laws.Flags.{clash}
 use Rattle.evaluation.proofs.standing.named.Statement.{statement}
 use Rattle.evaluation.proofs.standing.named.Tie as tie
 

@@ -2,7 +2,7 @@
 use mathlib.Core.Path.{_≡_, refl, subst, sym}
 use borrow.Author.Needs.{needs}
 use Rattle.tables.specs.declared.store.Store.{Store}
-use Rattle.evaluation.specs.declared.Facts.{Facts}
+use Rattle.coverage.specs.declared.Facts.{Facts}
 use Rattle.answers.specs.Facts.{FactsOf}
 use Rattle.queries.proofs.evaluated.evaluate.Statement.{statement}
 use Rattle.queries.proofs.evaluated.evaluate.Tie as tie

@@ -9,7 +9,7 @@ use Rattle.answers.proofs.Places.{table}
 use Rattle.rules.specs.Rules.{ConveyedIs}
 use Rattle.rules.specs.Rows.{levelOf}
 use Rattle.rules.proofs.Stores.Places.{conveyed-bytes}
-use Rattle.evaluation.specs.Places.{places}
+use Rattle.coverage.specs.Places.{places}
 use Rattle.answers.specs.Answers.{ConveyedPower}
 use Rattle.answers.specs.declared.answer.Powered.the-variants as powered
 use Rattle.answers.proofs.Telling.{conveyed-small, delegation-at-place, delegation-unheld, delegation-refused, not-held, is-held, with-is}
