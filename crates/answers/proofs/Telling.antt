@@ -30,10 +30,7 @@ use Rattle.tables.specs.Store.{committed, GoodStore}
 use Rattle.tables.specs.declared.store.Store.{Store}
 use Rattle.tables.proofs.ViewLaws.{delegation-digests, delegation-at, delegations-long}
 use Rattle.coverage.specs.Places.{places}
-use Rattle.evaluation.specs.Result.{standingOf}
 use Rattle.coverage.specs.declared.Facts.{Facts}
-use Rattle.evaluation.specs.declared.standing.Standing.{Standing}
-use Rattle.evaluation.specs.declared.standing.Standing.the-variants as standing
 use Rattle.answers.specs.Graph.{graph}
 use Rattle.answers.specs.Facts.{FactsOf}
 use Rattle.answers.specs.Answers as says
