@@ -19,8 +19,8 @@ use Rattle.runs.proofs.BoolLaws.{or, or-right}
 use Rattle.runs.proofs.ByteLaws.{eq-refl}
 use Rattle.runs.proofs.MemberLaws.{has-append}
 use Rattle.tables.specs.Committed.{Delegation, Committed, delegationKeys, keysOf, keysIn}
-use Rattle.tables.specs.Store.{committed, GoodStore}
-use Rattle.tables.specs.declared.store.Store.{Store}
+use Rattle.store.specs.Store.{committed, GoodStore}
+use Rattle.store.specs.declared.Store.{Store}
 use Rattle.coverage.specs.Places.{places}
 use Rattle.coverage.specs.declared.Facts.{Facts}
 use Rattle.answers.specs.Graph.{graph}

@@ -19,8 +19,8 @@ use Rattle.runs.proofs.ListLaws.{chosen-lists, picked-in, order-below}
 use Rattle.keyline.specs.Limits.{keyLimit, delegationLimit, revocationLimit}
 use Rattle.tables.specs.Committed.{Delegation, Revocation}
 use Rattle.tables.specs.Columns.{delegationAt, revocationAt}
-use Rattle.tables.specs.Store.{committed, GoodStore}
-use Rattle.tables.specs.declared.store.Store.{Store}
+use Rattle.store.specs.Store.{committed, GoodStore}
+use Rattle.store.specs.declared.Store.{Store}
 use Rattle.coverage.specs.Places.{places}
 use Rattle.coverage.specs.declared.Facts.{Facts}
 use Rattle.answers.specs.Graph.{graph, store, ByDigest, RevByDigest}

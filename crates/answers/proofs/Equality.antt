@@ -9,7 +9,7 @@ use Rattle.keyline.specs.declared.power.Power.{Power}
 use Rattle.keyline.proofs.Levels.{same-rank}
 use Rattle.runs.specs.Bytes.{Bytes}
 use Rattle.tables.specs.Committed.{Delegation, Committed}
-use Rattle.tables.proofs.MadeLaws.{delegation-made}
+use Rattle.store.proofs.MadeLaws.{delegation-made}
 use Rattle.answers.specs.Graph.{graph}
 
 pub same-bytes : (x y : Bytes) → Dec (x ≡ y)

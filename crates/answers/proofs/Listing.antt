@@ -18,8 +18,8 @@ use Rattle.runs.specs.declared.list.Chosen.{Chosen}
 use Rattle.runs.proofs.BoolLaws.{both-true}
 use Rattle.search.specs.Sets.{Word}
 use Rattle.tables.specs.Committed.{Delegation, Revocation, Committed}
-use Rattle.tables.specs.Store.{committed, GoodStore}
-use Rattle.tables.specs.declared.store.Store.{Store}
+use Rattle.store.specs.Store.{committed, GoodStore}
+use Rattle.store.specs.declared.Store.{Store}
 use Rattle.lists.specs.Lists.{bothAnswer, bothBuffer}
 use Rattle.lists.specs.Marks.{chosenRuns}
 use Rattle.lists.specs.declared.write.BothListed.{BothListed}

@@ -22,8 +22,8 @@ use Rattle.runs.proofs.AscentLaws.{lt-irrefl}
 use Rattle.runs.proofs.ListLaws.{chosen-lists}
 use Rattle.lists.specs.declared.write.Listed.the-variants as listed-as
 use Rattle.lists.proofs.ChosenLaws.{stand}
-use Rattle.tables.specs.Store.{committed, GoodStore}
-use Rattle.tables.specs.declared.store.Store.{Store}
+use Rattle.store.specs.Store.{committed, GoodStore}
+use Rattle.store.specs.declared.Store.{Store}
 use Rattle.coverage.specs.Places.{places}
 use Rattle.coverage.specs.declared.Facts.{Facts}
 use Rattle.answers.specs.Graph.{graph}

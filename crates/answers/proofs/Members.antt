@@ -24,8 +24,8 @@ use Rattle.runs.proofs.TableLaws.{runs-long, runs-at, found-at}
 use Rattle.runs.proofs.ListLaws.{chosen-lists, picked-in, order-below}
 use Rattle.keyline.specs.Limits.{keyLimit}
 use Rattle.tables.specs.Committed.{Delegation}
-use Rattle.tables.specs.Store.{committed, GoodStore}
-use Rattle.tables.specs.declared.store.Store.{Store}
+use Rattle.store.specs.Store.{committed, GoodStore}
+use Rattle.store.specs.declared.Store.{Store}
 use Rattle.coverage.specs.Places.{places}
 use Rattle.coverage.specs.declared.Facts.{Facts}
 use Rattle.answers.specs.Graph.{graph}

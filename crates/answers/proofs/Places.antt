@@ -20,8 +20,8 @@ use Rattle.runs.proofs.MemberLaws.{getD-place}
 use Rattle.runs.proofs.TableLaws.{runs-long, runs-at, found-at}
 use Rattle.tables.specs.Committed.{Delegation, Revocation, Committed}
 use Rattle.tables.specs.Columns.{delegationAt, revocationAt, powerOf}
-use Rattle.tables.specs.Store.{committed, GoodStore}
-use Rattle.tables.specs.declared.store.Store.{Store}
+use Rattle.store.specs.Store.{committed, GoodStore}
+use Rattle.store.specs.declared.Store.{Store}
 use Rattle.tables.proofs.ContentLaws.{rank-power}
 use Rattle.coverage.specs.Arrays.{Any}
 use Rattle.coverage.specs.Places.{places, Names}

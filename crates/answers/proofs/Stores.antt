@@ -5,8 +5,8 @@ use Rattle.runs.specs.Bytes.{Bytes, runAt}
 use Rattle.runs.proofs.TableLaws.{found-at}
 use Rattle.keyline.specs.Limits.{delegationLimit}
 use Rattle.tables.specs.Columns.{delegationAt}
-use Rattle.tables.specs.Store.{committed, GoodStore}
-use Rattle.tables.specs.declared.store.Store.{Store}
+use Rattle.store.specs.Store.{committed, GoodStore}
+use Rattle.store.specs.declared.Store.{Store}
 use Rattle.answers.specs.OneClosure.{Apart, OneClosure, SameAnswers}
 use Rattle.answers.proofs.OneClosure.{demand-3}
 use Rattle.answers.proofs.Places.{tabulate-out}

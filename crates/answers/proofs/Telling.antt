@@ -26,9 +26,9 @@ use Rattle.runs.proofs.TableLaws.{found-at, runs-long}
 use Rattle.runs.proofs.MemberLaws.{within-has}
 use Rattle.tables.specs.Committed.{noDelegation, delegationWith}
 use Rattle.tables.specs.Columns.{delegationAt}
-use Rattle.tables.specs.Store.{committed, GoodStore}
-use Rattle.tables.specs.declared.store.Store.{Store}
-use Rattle.tables.proofs.ViewLaws.{delegation-digests, delegation-at, delegations-long}
+use Rattle.store.specs.Store.{committed, GoodStore}
+use Rattle.store.specs.declared.Store.{Store}
+use Rattle.store.proofs.ViewLaws.{delegation-digests, delegation-at, delegations-long}
 use Rattle.coverage.specs.Places.{places}
 use Rattle.coverage.specs.declared.Facts.{Facts}
 use Rattle.answers.specs.Graph.{graph}

@@ -8,7 +8,7 @@ use Rattle.keyline.specs.Limits.{revocationLimit}
 use Rattle.runs.specs.Bytes.{Bytes, runAt}
 use Rattle.runs.specs.Members.{place}
 use Rattle.runs.specs.Table.{runs}
-use Rattle.tables.specs.declared.store.Store.{Store}
+use Rattle.store.specs.declared.Store.{Store}
 use Rattle.coverage.specs.declared.Facts.{Facts}
 
 -- target has, for each of the first m runs of `revoked`, its place among the n digests: n where it is none of them

@@ -4,14 +4,14 @@ use keyline::limits::DELEGATION_LIMIT;
 use keyline::limits::REVOCATION_LIMIT;
 use runs::bytes::RUN_LENGTH;
 use runs::table::LARGE_TABLE;
-use tables::store::Store;
+use store::Store;
 ghost use mathlib.Core.Path.{_≡_};
 ghost use Prim.Native.Nat.{_≤_, _*_};
 ghost use lib.ListN.{length};
 ghost use Rattle.runs.specs.Bytes.{runLength};
 ghost use Rattle.runs.specs.Table.{GoodRuns};
 ghost use Rattle.keyline.specs.Limits.{delegationLimit, revocationLimit};
-ghost use Rattle.tables.specs.Store.{GoodStore};
+ghost use Rattle.store.specs.Store.{GoodStore};
 ghost use Rattle.coverage.specs.Places.{Fit};
 ghost use Rattle.answers.specs.Facts.{FactsOf, Targets};
 

@@ -5,7 +5,7 @@ use mathlib.Core.Bool.{false}
 use Rattle.tables.specs.Committed.{Committed}
 use Rattle.tables.specs.Insertion.{isAdded, settled}
 use Rattle.tables.specs.declared.answer.Answer.{Answer}
-use Rattle.tables.specs.Store.{committed, GoodStore}
+use Rattle.store.specs.Store.{committed, GoodStore}
 use Rattle.keyline_memory.specs.declared.state.State.{State}
 use Rattle.keyline_memory.specs.declared.state.Inserted.{Inserted}
 

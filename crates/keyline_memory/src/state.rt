@@ -4,8 +4,8 @@ use lists::write::Listed;
 use lookups::lookup::Contained;
 use lookups::put::Looked;
 use queries::evaluated::Evaluated;
+use store::Store;
 use tables::answer::Answer;
-use tables::store::Store;
 ghost use mathlib.Core.Path.{_≡_};
 ghost use lib.Dec.{eqb};
 ghost use lib.ListN.{length};
@@ -30,7 +30,7 @@ pub struct Inserted {
 pub fn new() -> State
     ensures { λ r. ⌜ GoodState r × (heldIn r ≡ nothing) ⌝ }
 {
-    let store = tables::store::empty();
+    let store = store::empty();
     State { store }
 }
 
@@ -39,7 +39,7 @@ impl State {
         requires { ⌜ GoodState self ⌝ }
         ensures { λ r. ⌜ Insertion self r (delegationAnswer (heldIn self) (now (digest .entry)) (now (issuer .entry)) (now (payload .entry))) (delegationAdded (heldIn self) (now (digest .entry)) (now (issuer .entry)) (now (payload .entry))) ⌝ }
     {
-        let r = tables::store::insert_delegation(self.store, digest, issuer, payload);
+        let r = store::insert_delegation(self.store, digest, issuer, payload);
         let answer = r.answer;
         let store = r.store;
         let state = State { store };
@@ -50,7 +50,7 @@ impl State {
         requires { ⌜ GoodState self ⌝ }
         ensures { λ r. ⌜ Insertion self r (revocationAnswer (heldIn self) (now (digest .entry)) (now (issuer .entry)) (now (revoked .entry))) (revocationAdded (heldIn self) (now (digest .entry)) (now (issuer .entry)) (now (revoked .entry))) ⌝ }
     {
-        let r = tables::store::insert_revocation(self.store, digest, issuer, revoked);
+        let r = store::insert_revocation(self.store, digest, issuer, revoked);
         let answer = r.answer;
         let store = r.store;
         let state = State { store };
@@ -62,21 +62,21 @@ impl State {
         requires { ⌜ GoodState self ⌝ }
         ensures { λ r. ⌜ r ≡ lengthOf (heldIn self) ⌝ }
     {
-        tables::store::version(self.store)
+        store::version(self.store)
     }
 
     pub fn len(self) -> usize
         requires { ⌜ GoodState self ⌝ }
         ensures { λ r. ⌜ r ≡ lengthOf (heldIn self) ⌝ }
     {
-        tables::store::len(self.store)
+        store::len(self.store)
     }
 
     pub fn is_empty(self) -> bool
         requires { ⌜ GoodState self ⌝ }
         ensures { λ r. ⌜ r ≡ eqb (lengthOf (heldIn self)) 0 ⌝ }
     {
-        tables::store::is_empty(self.store)
+        store::is_empty(self.store)
     }
 
     // The evaluation of the set as it stands; every further question is put to what it gives.

@@ -7,10 +7,10 @@ use keyline::limits::KEY_LENGTH;
 use keyline::limits::KEY_LIMIT;
 use keyline::limits::REVOCATION_LIMIT;
 use keyline::refusal::Refusal;
-use tables::store::Store;
+use store::Store;
 ghost use mathlib.Core.Path.{_≡_};
 ghost use lib.ListN.{length};
-ghost use Rattle.tables.specs.Store.{committed, GoodStore};
+ghost use Rattle.store.specs.Store.{committed, GoodStore};
 ghost use Rattle.lists.specs.Lists.{listAnswer, listBuffer, bothAnswer, bothBuffer, lengthFirst, certificateDelegations, certificateRevocations, revocationsOf, delegationsTo, subjectsOf};
 
 // All certificates: delegations ascending, then revocations ascending.

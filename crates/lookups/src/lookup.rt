@@ -2,11 +2,11 @@
 use crate::put::Looked;
 use keyline::limits::DIGEST_LENGTH;
 use keyline::refusal::Refusal;
-use tables::store::Store;
+use store::Store;
 ghost use mathlib.Core.Path.{_≡_};
 ghost use lib.ListN.{length};
 ghost use Rattle.tables.specs.Committed.{delegationDigests, revocationDigests, delegationWith, revocationWith, payloadOf};
-ghost use Rattle.tables.specs.Store.{committed, GoodStore};
+ghost use Rattle.store.specs.Store.{committed, GoodStore};
 ghost use Rattle.lookups.specs.Lookup.{containsAnswer, delegationLookup, revocationLookup, partBuffer};
 
 pub enum Contained {

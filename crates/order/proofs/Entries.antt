@@ -27,8 +27,8 @@ use Rattle.tables.specs.Committed.{Delegation, Revocation, Committed, noDelegat
 use Rattle.tables.specs.Insertion.{Seen, seenDelegation, seenRevocation, heldAnswer, keysAnswer, acceptedAnswer, payloadAnswer, delegationFrom, delegationCheck, delegationAnswer, delegationAdded, withDelegation, revocationFrom, revocationSettled, revocationCheck, revocationAnswer, revocationAdded, withRevocation, readDelegation, settled}
 use Rattle.tables.specs.declared.answer.Answer.{Answer}
 use Rattle.tables.specs.declared.answer.Answer.the-variants.{Added, NotAdded, Refused}
-use Rattle.tables.proofs.MadeLaws.{delegation-made, revocation-made}
-use Rattle.tables.proofs.AnswerLaws.{delegation-added, revocation-added}
+use Rattle.store.proofs.MadeLaws.{delegation-made, revocation-made}
+use Rattle.store.proofs.AnswerLaws.{delegation-added, revocation-added}
 use Rattle.tables.proofs.ContentLaws.{content-parts, revoked-same}
 use Rattle.tables.proofs.PayloadLaws.{parts}
 use Rattle.order.specs.AnyOrder.{Certificate, delegation, revocation, answerTo, heldAfter, isRefused}

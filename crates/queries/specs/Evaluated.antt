@@ -1,7 +1,7 @@
 -- What an Evaluated stands for, and what holds of every one: `evaluate` ensures it, and with private fields nobody else can make one.
 -- Contracts speak of the committed set alone.
 use Rattle.tables.specs.Committed.{Committed}
-use Rattle.tables.specs.Store.{committed, GoodStore}
+use Rattle.store.specs.Store.{committed, GoodStore}
 use Rattle.evaluation.specs.Result as evaluation
 use Rattle.answers.specs.Facts.{FactsOf}
 use Rattle.queries.specs.declared.evaluated.Evaluated.{Evaluated}

@@ -20,10 +20,10 @@ use keyline::power::Power;
 use keyline::refusal::Refusal;
 use lists::write::BothListed;
 use lists::write::Listed;
-use tables::store::Store;
+use store::Store;
 ghost use Rattle.answers.specs.Answers.{PositivePower, EffectivePower, ConveyedPower, IsLive, StandingAnswer, MembersAnswer, ClosureAnswer};
 ghost use mathlib.Core.Path.{_≡_};
-ghost use Rattle.tables.specs.Store.{committed, GoodStore};
+ghost use Rattle.store.specs.Store.{committed, GoodStore};
 ghost use Rattle.queries.specs.Evaluated.{heldBy, GoodEvaluated};
 
 pub struct Evaluated {

@@ -1,8 +1,2 @@
-pub mod MadeLaws
 pub mod ContentLaws
 pub mod PayloadLaws
-pub mod ViewLaws
-pub mod AnswerLaws
-pub mod KeyLaws
-pub mod NextLaws
-pub mod InsertionLaws

@@ -2,4 +2,3 @@ pub mod Committed
 pub mod Insertion
 pub mod Columns
 pub mod Look
-pub mod Store

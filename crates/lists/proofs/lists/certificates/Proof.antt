@@ -5,7 +5,7 @@ use native.Mathlib.Omega.{arith}
 use denote.Ref.{now}
 use Rattle.keyline.specs.Limits.{delegationLimit, revocationLimit}
 use Rattle.tables.specs.Columns.{delegationAt, revocationAt}
-use Rattle.tables.specs.Store.{committed}
+use Rattle.store.specs.Store.{committed}
 use Rattle.lists.specs.Lists.{all, certificateDelegations, certificateRevocations}
 use Rattle.lists.specs.Marks.{chosenRuns}
 use Rattle.lists.proofs.ChosenLaws.{stand, rows-chosen}

@@ -9,7 +9,7 @@ use borrow.Author.Tests.{eq-eqb, ne-eqb}
 use denote.Ref.{now}
 use Rattle.keyline.specs.Limits.{keyLimit, delegationLimit}
 use Rattle.tables.specs.Columns.{delegationAt}
-use Rattle.tables.specs.Store.{committed}
+use Rattle.store.specs.Store.{committed}
 use Rattle.lists.specs.Lists.{lengthFirst, fromTo, delegationsTo}
 use Rattle.lists.specs.Marks.{chosenRuns}
 use Rattle.lists.proofs.ChosenLaws.{stand, rows-chosen, same-place}

@@ -6,7 +6,7 @@ use borrow.Author.Tests.{eq-eqb, ne-eqb}
 use denote.Ref.{now}
 use Rattle.keyline.specs.Limits.{revocationLimit}
 use Rattle.tables.specs.Columns.{revocationAt}
-use Rattle.tables.specs.Store.{committed}
+use Rattle.store.specs.Store.{committed}
 use Rattle.lists.specs.Lists.{lengthFirst, names, revocationsOf}
 use Rattle.lists.specs.Marks.{chosenRuns}
 use Rattle.lists.proofs.ChosenLaws.{stand, rows-chosen}

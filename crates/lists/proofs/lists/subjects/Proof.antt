@@ -5,7 +5,7 @@ use native.Mathlib.Omega.{arith}
 use denote.Ref.{now}
 use Rattle.keyline.specs.Limits.{keyLimit}
 use Rattle.tables.specs.Columns.{delegationAt}
-use Rattle.tables.specs.Store.{committed}
+use Rattle.store.specs.Store.{committed}
 use Rattle.lists.specs.Lists.{subjectsOf}
 use Rattle.lists.specs.Marks.{chosenRuns}
 use Rattle.lists.proofs.ChosenLaws.{stand, keys-chosen}

@@ -1,7 +1,7 @@
 use mathlib.Core.Path.{_≡_, sym, ap, _∙_}
 use borrow.Author.Tests.{eq-eqb, ne-eqb}
 use denote.Ref.{now}
-use Rattle.tables.proofs.ViewLaws.{delegation-found}
+use Rattle.store.proofs.ViewLaws.{delegation-found}
 use Rattle.lookups.specs.Lookup.{containsAnswer}
 use Rattle.lookups.specs.declared.lookup.Contained.the-variants as contained
 use borrow.Author.Needs.{needs}

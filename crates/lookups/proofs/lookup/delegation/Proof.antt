@@ -11,9 +11,9 @@ use Rattle.runs.specs.Members.{has}
 use Rattle.tables.specs.Committed.{Delegation, delegationDigests, delegationWith, payloadOf}
 use Rattle.tables.specs.Columns.{rowAt, delegationAt}
 use Rattle.tables.specs.Look.{rowThere}
-use Rattle.tables.specs.Store.{committed}
+use Rattle.store.specs.Store.{committed}
 use Rattle.tables.specs.declared.delegations.DelegationRow.{DelegationRow}
-use Rattle.tables.proofs.ViewLaws.{delegation-found, delegation-is, row-fits}
+use Rattle.store.proofs.ViewLaws.{delegation-found, delegation-is, row-fits}
 use Rattle.lookups.specs.Lookup.{partsAnswer, partBuffer, lookAnswer, delegationLookup}
 use Rattle.lookups.proofs.LookLaws.{look-bad, look-absent, look-there}
 use borrow.Author.Needs.{needs}

@@ -9,8 +9,8 @@ use Rattle.runs.specs.Bytes.{Bytes, runAt}
 use Rattle.runs.specs.Members.{has}
 use Rattle.tables.specs.Committed.{revocationDigests, revocationWith}
 use Rattle.tables.specs.Columns.{revocationAt}
-use Rattle.tables.specs.Store.{committed}
-use Rattle.tables.proofs.ViewLaws.{revocation-found, revocation-is, revocation-fits}
+use Rattle.store.specs.Store.{committed}
+use Rattle.store.proofs.ViewLaws.{revocation-found, revocation-is, revocation-fits}
 use Rattle.lookups.proofs.LookLaws.{look-bad, look-absent, look-there}
 use borrow.Author.Needs.{needs}
 use Rattle.lookups.proofs.lookup.revocation.Statement.{statement}

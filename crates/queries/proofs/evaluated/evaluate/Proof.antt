@@ -1,7 +1,7 @@
 -- `evaluate` meets its contract: the facts are the store's, and the evaluation is of those facts.
 use mathlib.Core.Path.{_≡_, refl, subst, sym}
 use borrow.Author.Needs.{needs}
-use Rattle.tables.specs.declared.store.Store.{Store}
+use Rattle.store.specs.declared.Store.{Store}
 use Rattle.coverage.specs.declared.Facts.{Facts}
 use Rattle.answers.specs.Facts.{FactsOf}
 use Rattle.queries.proofs.evaluated.evaluate.Statement.{statement}

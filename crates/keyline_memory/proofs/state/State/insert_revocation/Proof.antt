@@ -1,7 +1,7 @@
--- `State::insert_revocation` meets its contract: it is the tables' insertion, under the type that hides them.
+-- `State::insert_revocation` meets its contract: it is the store's insertion, under the type that hides it.
 use mathlib.Core.Path.{ap}
 use borrow.Author.Needs.{needs}
-use Rattle.tables.specs.declared.store.Store.{Store}
+use Rattle.store.specs.declared.Store.{Store}
 use Rattle.keyline_memory.specs.declared.state.State.{State}
 use Rattle.keyline_memory.proofs.state.State.insert_revocation.Statement.{statement}
 use Rattle.keyline_memory.proofs.state.State.insert_revocation.Tie as tie

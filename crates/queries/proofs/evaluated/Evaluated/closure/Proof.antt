@@ -5,7 +5,7 @@ use denote.Ref.{now}
 use Rattle.keyline.specs.Bytes.{front}
 use Rattle.runs.specs.Bytes.{joined}
 use Rattle.keyline.specs.Limits.{delegationLimit, revocationLimit}
-use Rattle.tables.specs.Store.{committed}
+use Rattle.store.specs.Store.{committed}
 use Rattle.lists.specs.declared.write.BothListed.the-variants as two
 use Rattle.lists.proofs.ChosenLaws.{stand}
 use Rattle.answers.specs.Answers as says

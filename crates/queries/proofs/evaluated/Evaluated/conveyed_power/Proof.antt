@@ -2,7 +2,7 @@
 use mathlib.Core.Path.{sym, subst}
 use borrow.Author.Needs.{needs}
 use denote.Ref.{now}
-use Rattle.tables.specs.Store.{committed}
+use Rattle.store.specs.Store.{committed}
 use Rattle.answers.specs.Graph.{graph}
 use Rattle.answers.specs.Answers as says
 use Rattle.answers.proofs.Places.{table}

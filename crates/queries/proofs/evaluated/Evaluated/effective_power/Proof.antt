@@ -6,7 +6,7 @@ use borrow.Author.Needs.{needs}
 use denote.Ref.{now}
 use lib.ListN.{getD}
 use Rattle.rules.specs.Rules.{Admin, EffectiveIs}
-use Rattle.tables.specs.Store.{committed}
+use Rattle.store.specs.Store.{committed}
 use Rattle.answers.specs.Graph.{graph}
 use Rattle.answers.proofs.Asking.{effective-self, effective-no-subject, effective-no-audience, effective-held}
 use Rattle.answers.proofs.Telling.{answer-small, pair-refused, pair-same, pair-unheld, pair-at, at-pair}

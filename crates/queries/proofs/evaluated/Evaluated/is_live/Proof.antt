@@ -2,7 +2,7 @@
 use mathlib.Core.Path.{sym}
 use borrow.Author.Needs.{needs}
 use denote.Ref.{now}
-use Rattle.tables.specs.Store.{committed}
+use Rattle.store.specs.Store.{committed}
 use Rattle.answers.specs.Answers as says
 use Rattle.answers.proofs.Places.{table}
 use Rattle.rules.proofs.Stores.Places.{standing-bytes}

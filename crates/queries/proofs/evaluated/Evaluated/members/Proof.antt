@@ -5,7 +5,7 @@ use denote.Ref.{now}
 use Rattle.keyset.specs.Word.{width}
 use Rattle.keyline.specs.Bytes.{front}
 use Rattle.runs.specs.Bytes.{joined}
-use Rattle.tables.specs.Store.{committed}
+use Rattle.store.specs.Store.{committed}
 use Rattle.lists.specs.declared.write.Listed.the-variants as listed
 use Rattle.answers.specs.Answers as says
 use Rattle.answers.specs.Answers.{MembersAnswer}

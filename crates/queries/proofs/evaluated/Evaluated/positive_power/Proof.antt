@@ -5,7 +5,7 @@ use native.Mathlib.Omega.{arith}
 use borrow.Author.Needs.{needs}
 use denote.Ref.{now}
 use Rattle.rules.specs.Rules.{Admin, PositiveIs}
-use Rattle.tables.specs.Store.{committed}
+use Rattle.store.specs.Store.{committed}
 use Rattle.answers.specs.Graph.{graph}
 use Rattle.answers.proofs.Asking.{positive-self, positive-no-subject, positive-no-audience, positive-held}
 use Rattle.answers.proofs.Telling.{answer-small, pair-refused, pair-same, pair-unheld, pair-at, at-pair}

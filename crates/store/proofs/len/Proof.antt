@@ -1,8 +1,8 @@
 use mathlib.Core.Path.{sym}
-use Rattle.tables.proofs.ViewLaws.{length-is}
+use Rattle.store.proofs.ViewLaws.{length-is}
 use borrow.Author.Needs.{needs}
-use Rattle.tables.proofs.store.len.Statement.{statement}
-use Rattle.tables.proofs.store.len.Tie as tie
+use Rattle.store.proofs.len.Statement.{statement}
+use Rattle.store.proofs.len.Tie as tie
 
 add-result : tie.Need-add-result
 add-result c = search needs

@@ -15,14 +15,14 @@ use Rattle.runs.specs.Table.{runs, GoodRuns, Room}
 use Rattle.runs.proofs.PartLaws.{length-put, run-before, run-here}
 use Rattle.runs.proofs.TableLaws.{runs-long, has-place}
 use Rattle.keyline.specs.Limits.{keyLimit, digestLength}
 use Rattle.tables.specs.Committed.{Committed}
 use Rattle.tables.specs.Insertion.{isAdded, settled}
-use Rattle.tables.specs.Store.{committed, GoodStore, Insertion}
+use Rattle.store.specs.Store.{committed, GoodStore, Insertion}
 use Rattle.tables.specs.declared.answer.Answer.{Answer}
 use Rattle.tables.specs.declared.answer.Answer.the-variants.{Added, NotAdded, Refused}
-use Rattle.tables.specs.declared.store.Store.{Store}
-use Rattle.tables.proofs.KeyLaws.{KeyRoom}
+use Rattle.store.specs.declared.Store.{Store}
+use Rattle.store.proofs.KeyLaws.{KeyRoom}
 use Rattle.tables.proofs.PayloadLaws.{Cited}
 
 pub is-added : (a : Answer) → isAdded a ≡ true → a ≡ Added
 is-added Added e = refl

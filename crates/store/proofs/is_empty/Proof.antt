@@ -1,8 +1,8 @@
 use mathlib.Core.Path.{refl}
-use Rattle.tables.proofs.ViewLaws.{length-is}
+use Rattle.store.proofs.ViewLaws.{length-is}
 use borrow.Author.Needs.{needs}
-use Rattle.tables.proofs.store.is_empty.Statement.{statement}
-use Rattle.tables.proofs.store.is_empty.Tie as tie
+use Rattle.store.proofs.is_empty.Statement.{statement}
+use Rattle.store.proofs.is_empty.Tie as tie
 
 add-result : tie.Need-add-result
 add-result c = search needs

@@ -20,16 +20,16 @@ use Rattle.runs.proofs.PartLaws.{tabulate-long, tabulate-snoc, tabulate-same}
 use Rattle.runs.proofs.TableLaws.{runs-long, runs-at, kept-at}
 use Rattle.keyline.specs.Limits.{keyLimit, delegationLimit, revocationLimit}
 use Rattle.keyline.specs.Power.{levelCount}
 use Rattle.tables.specs.Committed.{Delegation, Revocation, Committed, delegationKeys, revocationKeys, keysOf, keysIn}
 use Rattle.tables.specs.Insertion.{withDelegation, withRevocation}
 use Rattle.tables.specs.Columns.{keyPlace, rowAt, rowSays, delegationAt, revocationAt, Places, Ranks, powerOf}
-use Rattle.tables.specs.Store.{committed, GoodStore, GoodDelegations, GoodRevocations}
+use Rattle.store.specs.Store.{committed, GoodStore, GoodDelegations, GoodRevocations}
 use Rattle.tables.specs.declared.delegations.Delegations.{Delegations}
 use Rattle.tables.specs.declared.revocations.Revocations.{Revocations}
-use Rattle.tables.specs.declared.store.Store.{Store}
+use Rattle.store.specs.declared.Store.{Store}
 use Rattle.tables.proofs.ContentLaws.{power-rank}
-use Rattle.tables.proofs.MadeLaws.{delegation-made, revocation-made, committed-made}
-use Rattle.tables.proofs.KeyLaws.{WithKeys, Stands}
+use Rattle.store.proofs.MadeLaws.{delegation-made, revocation-made, committed-made}
+use Rattle.store.proofs.KeyLaws.{WithKeys, Stands}
 
 -- ---- columns
 -- what holds of each entry holds of each with one set

@@ -8,19 +8,19 @@ use denote.Ref.{now}
 use Rattle.runs.specs.Bytes.{Bytes, runLength, runAt}
 use Rattle.runs.specs.declared.table.Interned.{Interned}
 use Rattle.keyline.specs.Limits.{keyLimit, revocationLimit}
 use Rattle.tables.specs.Committed.{Revocation}
 use Rattle.tables.specs.Insertion.{Seen, revocationFrom, revocationAnswer, revocationAdded}
 use Rattle.tables.specs.Look.{revocationThere}
-use Rattle.tables.specs.Store.{committed, GoodStore}
-use Rattle.tables.specs.declared.store.Store.{Store}
-use Rattle.tables.proofs.ViewLaws.{revocation-fits}
-use Rattle.tables.proofs.AnswerLaws.{RevocationAdded, revocation-added, revocation-seen}
-use Rattle.tables.proofs.KeyLaws.{KeyRoom, can-intern, one-key, stands}
-use Rattle.tables.proofs.NextLaws.{RevocationPushed, revocation-next, revocation-good}
-use Rattle.tables.proofs.InsertionLaws.{is-added, kept-law, added-law, room-for, key-room, column-long, column-before, column-here}
+use Rattle.store.specs.Store.{committed, GoodStore}
+use Rattle.store.specs.declared.Store.{Store}
+use Rattle.store.proofs.ViewLaws.{revocation-fits}
+use Rattle.store.proofs.AnswerLaws.{RevocationAdded, revocation-added, revocation-seen}
+use Rattle.store.proofs.KeyLaws.{KeyRoom, can-intern, one-key, stands}
+use Rattle.store.proofs.NextLaws.{RevocationPushed, revocation-next, revocation-good}
+use Rattle.store.proofs.InsertionLaws.{is-added, kept-law, added-law, room-for, key-room, column-long, column-before, column-here}
 use borrow.Author.Needs.{needs}
-use Rattle.tables.proofs.store.insert_revocation.Statement.{statement}
-use Rattle.tables.proofs.store.insert_revocation.Tie as tie
+use Rattle.store.proofs.insert_revocation.Statement.{statement}
+use Rattle.store.proofs.insert_revocation.Tie as tie
 
 there : tie.Then1 → Seen Revocation
 there c =

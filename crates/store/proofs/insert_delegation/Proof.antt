@@ -10,20 +10,20 @@ use denote.Ref.{now}
 use Rattle.keyline.specs.Power.{rankOf}
 use Rattle.runs.specs.Bytes.{Bytes, runLength, runAt}
 use Rattle.keyline.specs.Limits.{keyLength, keyLimit, delegationLimit}
 use Rattle.tables.specs.Committed.{Delegation}
 use Rattle.tables.specs.Insertion.{Seen, delegationFrom, delegationAnswer, delegationAdded, readRank, readDelegation, withDelegation}
 use Rattle.tables.specs.Look.{delegationThere}
-use Rattle.tables.specs.Store.{committed, GoodStore}
-use Rattle.tables.specs.declared.store.Store.{Store}
+use Rattle.store.specs.Store.{committed, GoodStore}
+use Rattle.store.specs.declared.Store.{Store}
 use Rattle.tables.proofs.PayloadLaws.{Parts, parts}
-use Rattle.tables.proofs.ViewLaws.{row-fits}
-use Rattle.tables.proofs.AnswerLaws.{DelegationAdded, delegation-added, delegation-seen}
-use Rattle.tables.proofs.KeyLaws.{KeyRoom, can-intern, rest-room, three-keys, first-stands, second-stands, third-stands}
-use Rattle.tables.proofs.NextLaws.{DelegationPushed, delegation-next, delegation-good}
-use Rattle.tables.proofs.InsertionLaws.{is-added, kept-law, added-law, room-for, key-room, citedColumn, cited-long, cited-before, cited-here}
+use Rattle.store.proofs.ViewLaws.{row-fits}
+use Rattle.store.proofs.AnswerLaws.{DelegationAdded, delegation-added, delegation-seen}
+use Rattle.store.proofs.KeyLaws.{KeyRoom, can-intern, rest-room, three-keys, first-stands, second-stands, third-stands}
+use Rattle.store.proofs.NextLaws.{DelegationPushed, delegation-next, delegation-good}
+use Rattle.store.proofs.InsertionLaws.{is-added, kept-law, added-law, room-for, key-room, citedColumn, cited-long, cited-before, cited-here}
 use borrow.Author.Needs.{needs}
-use Rattle.tables.proofs.store.insert_delegation.Statement.{statement}
-use Rattle.tables.proofs.store.insert_delegation.Tie as tie
+use Rattle.store.proofs.insert_delegation.Statement.{statement}
+use Rattle.store.proofs.insert_delegation.Tie as tie
 
 there : tie.Then1 → Seen Delegation
 there c =

@@ -1,9 +1,5 @@
 // The store, by value: what it holds, and insertion. An insertion first works out its answer from the tables as they are lent, and only
 // where that is Added changes them, where they lie: so a refusal leaves the store as it was, and nothing of the store is copied on the way.
-use crate::answer::Answer;
-use crate::delegations::Delegations;
-use crate::keys::Keys;
-use crate::revocations::Revocations;
 use codec::delegation::Decoded;
 use keyline::limits::DELEGATION_LIMIT;
 use keyline::limits::KEY_LENGTH;
@@ -15,12 +11,16 @@ use runs::bytes::RUN_LENGTH;
 use runs::table;
 use runs::table::LARGE_TABLE;
 use runs::table::SMALL_TABLE;
+use tables::answer::Answer;
+use tables::delegations::Delegations;
+use tables::keys::Keys;
+use tables::revocations::Revocations;
 ghost use mathlib.Core.Path.{_≡_};
 ghost use lib.Dec.{eqb};
 ghost use Rattle.codec.specs.Delegation.{decoded};
 ghost use Rattle.tables.specs.Committed.{nothing, lengthOf};
 ghost use Rattle.tables.specs.Insertion.{readRank, delegationAnswer, delegationAdded, revocationAnswer, revocationAdded};
-ghost use Rattle.tables.specs.Store.{committed, GoodStore, Insertion};
+ghost use Rattle.store.specs.Store.{committed, GoodStore, Insertion};
 
 pub struct Store {
     pub keys: Keys,
@@ -101,8 +101,8 @@ pub fn insert_delegation(mut s: Store, digest: &[u8], issuer: &[u8], payload: &[
     ensures { λ r. ⌜ Insertion s r (delegationAnswer (committed s) (now (digest .entry)) (now (issuer .entry)) (now (payload .entry))) (delegationAdded (committed s) (now (digest .entry)) (now (issuer .entry)) (now (payload .entry))) ⌝ }
 {
     let n = s.delegations.count;
-    let at = crate::delegations::find(&s.delegations.digests, n, digest);
-    let row = crate::delegations::row(
+    let at = tables::delegations::find(&s.delegations.digests, n, digest);
+    let row = tables::delegations::row(
         &s.delegations.issuer,
         &s.delegations.audience,
         &s.delegations.subject,
@@ -111,7 +111,7 @@ pub fn insert_delegation(mut s: Store, digest: &[u8], issuer: &[u8], payload: &[
         at,
     );
     let m = s.keys.count;
-    let answer = crate::answer::delegation_answer(
+    let answer = tables::answer::delegation_answer(
         &s.keys.table,
         m,
         &s.delegations.citation,
@@ -122,7 +122,7 @@ pub fn insert_delegation(mut s: Store, digest: &[u8], issuer: &[u8], payload: &[
         issuer,
         payload,
     );
-    if crate::answer::is_added(answer) {
+    if tables::answer::is_added(answer) {
         let i = table::intern_small(&mut s.keys.table, m, issuer);
         let a = table::intern_small(&mut s.keys.table, i.count, &payload[0..KEY_LENGTH]);
         let u = table::intern_small(
@@ -132,13 +132,13 @@ pub fn insert_delegation(mut s: Store, digest: &[u8], issuer: &[u8], payload: &[
         );
         s.keys.count = u.count;
         let new = DelegationPlace(n);
-        crate::delegations::set_key(&mut s.delegations.issuer, new, KeyPlace(i.place));
-        crate::delegations::set_key(&mut s.delegations.audience, new, KeyPlace(a.place));
-        crate::delegations::set_key(&mut s.delegations.subject, new, KeyPlace(u.place));
-        crate::delegations::set_rank(&mut s.delegations.power, new, rank_of(payload));
+        tables::delegations::set_key(&mut s.delegations.issuer, new, KeyPlace(i.place));
+        tables::delegations::set_key(&mut s.delegations.audience, new, KeyPlace(a.place));
+        tables::delegations::set_key(&mut s.delegations.subject, new, KeyPlace(u.place));
+        tables::delegations::set_rank(&mut s.delegations.power, new, rank_of(payload));
         let citation = codec::delegation::citation(payload);
-        crate::delegations::set_flag(&mut s.delegations.cited, new, citation.len() != 0);
-        crate::delegations::put_citation(&mut s.delegations.citation, new, citation);
+        tables::delegations::set_flag(&mut s.delegations.cited, new, citation.len() != 0);
+        tables::delegations::put_citation(&mut s.delegations.citation, new, citation);
         table::push_large(&mut s.delegations.digests, n, digest);
         s.delegations.count = n + 1;
         s.version = s.version + 1;
@@ -154,10 +154,10 @@ pub fn insert_revocation(mut s: Store, digest: &[u8], issuer: &[u8], revoked: &[
     ensures { λ r. ⌜ Insertion s r (revocationAnswer (committed s) (now (digest .entry)) (now (issuer .entry)) (now (revoked .entry))) (revocationAdded (committed s) (now (digest .entry)) (now (issuer .entry)) (now (revoked .entry))) ⌝ }
 {
     let n = s.revocations.count;
-    let at = crate::revocations::find(&s.revocations.digests, n, digest);
-    let by = crate::revocations::key_at(&s.revocations.issuer, at);
+    let at = tables::revocations::find(&s.revocations.digests, n, digest);
+    let by = tables::revocations::key_at(&s.revocations.issuer, at);
     let m = s.keys.count;
-    let answer = crate::answer::revocation_answer(
+    let answer = tables::answer::revocation_answer(
         &s.keys.table,
         m,
         &s.revocations.revoked,
@@ -168,12 +168,12 @@ pub fn insert_revocation(mut s: Store, digest: &[u8], issuer: &[u8], revoked: &[
         issuer,
         revoked,
     );
-    if crate::answer::is_added(answer) {
+    if tables::answer::is_added(answer) {
         let i = table::intern_small(&mut s.keys.table, m, issuer);
         s.keys.count = i.count;
         let new = RevocationPlace(n);
-        crate::revocations::set_key(&mut s.revocations.issuer, new, KeyPlace(i.place));
-        crate::revocations::put_revoked(&mut s.revocations.revoked, new, revoked);
+        tables::revocations::set_key(&mut s.revocations.issuer, new, KeyPlace(i.place));
+        tables::revocations::put_revoked(&mut s.revocations.revoked, new, revoked);
         table::push_small(&mut s.revocations.digests, n, digest);
         s.revocations.count = n + 1;
         s.version = s.version + 1;

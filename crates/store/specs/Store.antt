@@ -1,4 +1,4 @@
--- What a store's value stands for, and what holds of every store. Rests on Columns and Insertion.
+-- What a store's value stands for, and what holds of every store. Rests on tables' Columns and Insertion.
 use Prim.Native.Nat.{ℕ, _+_, _*_, _≤_, _<_}
 use mathlib.Core.Path.{_≡_}
 use mathlib.Core.Bool.{false}
@@ -7,14 +7,14 @@ use Rattle.runs.specs.Bytes.{Bytes, runLength}
 use Rattle.runs.specs.Members.{SameRuns}
 use Rattle.runs.specs.Table.{tabulate, runs, GoodRuns}
 use Rattle.keyline.specs.Limits.{keyLimit, delegationLimit, revocationLimit}
 use Rattle.tables.specs.Committed.{Committed, keysIn}
 use Rattle.tables.specs.Columns.{delegationAt, revocationAt, Places, Ranks}
 use Rattle.tables.specs.Insertion.{isAdded, settled}
 use Rattle.tables.specs.declared.answer.Answer.{Answer}
 use Rattle.tables.specs.declared.delegations.Delegations.{Delegations}
 use Rattle.tables.specs.declared.revocations.Revocations.{Revocations}
-use Rattle.tables.specs.declared.store.Store.{Store}
-use Rattle.tables.specs.declared.store.Inserted.{Inserted}
+use Rattle.store.specs.declared.Store.{Store}
+use Rattle.store.specs.declared.Inserted.{Inserted}
 
 -- the certificates that a store holds
 unfoldable pub committed : Store → Committed

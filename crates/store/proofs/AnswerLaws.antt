@@ -20,16 +20,16 @@ use Rattle.runs.specs.Bytes.{Bytes, runAt}
 use Rattle.runs.specs.Members.{place, has, fresh}
 use Rattle.runs.specs.Table.{runs}
 use Rattle.keyline.specs.Limits.{keyLength, digestLength, keyLimit, delegationLimit, revocationLimit}
 use Rattle.tables.specs.Committed.{Delegation, Revocation, delegationKeys, revocationKeys, sameContent, sameRevoked}
 use Rattle.tables.specs.Insertion.{Seen, seenDelegation, seenRevocation, heldAnswer, keysAnswer, acceptedAnswer, payloadAnswer, delegationFrom, delegationCheck, delegationAnswer, revocationFrom, revocationSettled, revocationCheck, revocationAnswer}
 use Rattle.tables.specs.Columns.{keyPlace, rowAt}
 use Rattle.tables.specs.Look.{delegationThere, revocationThere}
-use Rattle.tables.specs.Store.{committed, GoodStore}
+use Rattle.store.specs.Store.{committed, GoodStore}
 use Rattle.tables.specs.declared.answer.Answer.{Answer}
 use Rattle.tables.specs.declared.answer.Answer.the-variants.{Added, NotAdded, Refused}
-use Rattle.tables.specs.declared.store.Store.{Store}
+use Rattle.store.specs.declared.Store.{Store}
 use Rattle.tables.proofs.ContentLaws.{any-digest, any-revoked}
-use Rattle.tables.proofs.ViewLaws.{keys-same, delegations-long, revocations-long, delegation-found, delegation-is, revocation-found, revocation-is}
+use Rattle.store.proofs.ViewLaws.{keys-same, delegations-long, revocations-long, delegation-found, delegation-is, revocation-found, revocation-is}
 
 -- ---- settled by what is seen: certificates of kind A, whose content `same` compares
 pub record Alike {A : Type 0} (same : A → A → Bool) (v w : Seen A) : Type 0 where

@@ -13,11 +13,11 @@ use Rattle.runs.specs.Members.{has}
 use Rattle.runs.proofs.TableLaws.{none-good}
 use Rattle.keyline.specs.Limits.{keyLimit, delegationLimit, revocationLimit}
 use Rattle.keyline.specs.Power.{levelCount}
 use Rattle.tables.specs.Committed.{keysOf, keysIn}
 use Rattle.tables.specs.Columns.{Places, Ranks}
-use Rattle.tables.specs.Store.{committed}
-use Rattle.tables.proofs.store.empty.Statement.{statement}
-use Rattle.tables.proofs.store.empty.Tie as tie
+use Rattle.store.specs.Store.{committed}
+use Rattle.store.proofs.empty.Statement.{statement}
+use Rattle.store.proofs.empty.Tie as tie
 
 zeros : (n i : ℕ) → _≡_ {A = ℕ} (getD (replicate n 0) i 0) 0
 zeros n i = go (ltb i n) refl

@@ -1,7 +1,7 @@
 use mathlib.Core.Path.{sym, _∙_}
-use Rattle.tables.proofs.ViewLaws.{length-is}
-use Rattle.tables.proofs.store.version.Statement.{statement}
-use Rattle.tables.proofs.store.version.Tie as tie
+use Rattle.store.proofs.ViewLaws.{length-is}
+use Rattle.store.proofs.version.Statement.{statement}
+use Rattle.store.proofs.version.Tie as tie
 
 returns : tie.Need-returns
 returns c = c .pre .version ∙ sym (length-is (c .args .s))

@@ -16,13 +16,13 @@ use Rattle.runs.proofs.PartLaws.{tabulate-long, tabulate-at, tabulate-map}
 use Rattle.runs.proofs.FreshLaws.{fresh-same, count-same, all-has}
 use Rattle.runs.proofs.TableLaws.{runs-long, has-place, run-fits}
 use Rattle.keyline.specs.Limits.{keyLimit, delegationLimit, revocationLimit}
 use Rattle.tables.specs.Committed.{Delegation, Revocation, Committed, noDelegation, noRevocation, delegationDigests, revocationDigests, delegationWith, revocationWith, keysIn, keys, lengthOf}
 use Rattle.tables.specs.Insertion.{Seen, seenDelegation, seenRevocation, delegationAnswer, revocationAnswer, keysAnswer}
 use Rattle.tables.specs.Columns.{rowAt, delegationAt, revocationAt}
 use Rattle.tables.specs.Look.{RowFits, RevocationFits, delegationThere, revocationThere}
-use Rattle.tables.specs.Store.{committed, GoodStore}
+use Rattle.store.specs.Store.{committed, GoodStore}
 use Rattle.tables.specs.declared.delegations.DelegationRow.{DelegationRow}
-use Rattle.tables.specs.declared.store.Store.{Store}
+use Rattle.store.specs.declared.Store.{Store}
 
 -- ---- what stands at a place
 module _ (s : Store) where

@@ -1,8 +1,8 @@
 use mathlib.Core.Path.{_≡_, sym, ap, _∙_}
 use Rattle.tables.specs.Insertion.{readRank}
 use borrow.Author.Needs.{needs}
-use Rattle.tables.proofs.store.rank_of.Statement.{statement}
-use Rattle.tables.proofs.store.rank_of.Tie as tie
+use Rattle.store.proofs.rank_of.Statement.{statement}
+use Rattle.store.proofs.rank_of.Tie as tie
 
 decode-requires : tie.Need-decode-requires
 decode-requires c κs = search needs
