@@ -12,9 +12,8 @@ use Rattle.runs.specs.Bytes.{Bytes}
 use Rattle.wire.specs.Reply.{headLength, headOf}
 use Rattle.wire.specs.Request.{otherLimit, headerLength, requestOf, firstOf, secondOf, thirdOf}
 use Rattle.wire.specs.declared.request.Request.{Request}
-use Rattle.wire.specs.declared.operation.Change.{Change}
 use Rattle.wire.proofs.Reading.{first-lent, second-lent, third-lent}
-use Rattle.script.specs.Run.{roomIn, zeros, inPlace, StateAnswers, StateReplied, state-replied, EvaluatedAnswers, EvaluatedReplied, evaluated-replied, Changes, ChangeReplied, change-replied}
+use Rattle.script.specs.Run.{roomIn, zeros, inPlace, StateAnswers, StateReplied, state-replied, EvaluatedAnswers, EvaluatedReplied, evaluated-replied}
 use Rattle.tables.specs.Committed.{Committed}
 use Rattle.wire.specs.declared.operation.OfState.{OfState}
 use Rattle.wire.specs.declared.operation.OfEvaluated.{OfEvaluated}
@@ -98,11 +97,11 @@ module _ (q : Request) (s : Bytes) (e : q ≡ requestOf s) where
       (subst (λ y. EvaluatedReplied c (midOf headerLength (headerLength + q .first - headerLength) s) y p (zeros (q .other)) what o) (second-lent q s e)
       (evaluated-zeros (q .other) h t))
 
-  pub change-asked : {c d : Committed} {o p z : Bytes} {what : Change} {r : Reply} → Changes c (midOf headerLength (headerLength + q .first - headerLength) s) (midOf (headerLength + q .first) (headerLength + q .first + q .second - (headerLength + q .first)) s) (midOf (headerLength + q .first + q .second) (headerLength + q .first + q .second + q .third - (headerLength + q .first + q .second)) s) what r d → o ≡ inPlace r p z
-      → ChangeReplied c (firstOf s) (secondOf s) (thirdOf s) p z what d o
-  change-asked {c} {d} {o} {p} {z} {what} {r} t i =
-      subst (λ b. ChangeReplied c (firstOf s) (secondOf s) (thirdOf s) p z what d b) (sym i)
-      (change-replied
-      (subst (λ x. Changes c x (secondOf s) (thirdOf s) what r d) (first-lent q s e)
-      (subst (λ y. Changes c (midOf headerLength (headerLength + q .first - headerLength) s) y (thirdOf s) what r d) (second-lent q s e)
-      (subst (λ w. Changes c (midOf headerLength (headerLength + q .first - headerLength) s) (midOf (headerLength + q .first) (headerLength + q .first + q .second - (headerLength + q .first)) s) w what r d) (third-lent q s e) t))))
+  -- what holds of the three arguments as they are lent
+  pub as-asked : (P : Bytes → Bytes → Bytes → Type 0)
+      → P (midOf headerLength (headerLength + q .first - headerLength) s) (midOf (headerLength + q .first) (headerLength + q .first + q .second - (headerLength + q .first)) s) (midOf (headerLength + q .first + q .second) (headerLength + q .first + q .second + q .third - (headerLength + q .first + q .second)) s)
+      → P (firstOf s) (secondOf s) (thirdOf s)
+  as-asked P t =
+      subst (λ x. P x (secondOf s) (thirdOf s)) (first-lent q s e)
+      (subst (λ y. P (midOf headerLength (headerLength + q .first - headerLength) s) y (thirdOf s)) (second-lent q s e)
+      (subst (λ z. P (midOf headerLength (headerLength + q .first - headerLength) s) (midOf (headerLength + q .first) (headerLength + q .first + q .second - (headerLength + q .first)) s) z) (third-lent q s e) t))

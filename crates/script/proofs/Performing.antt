@@ -8,23 +8,29 @@ use lib.Seq.{length-take-le, take-at, drop-at, take-add, take-take, drop-drop, t
 use borrow.Rule.Slice.PartMut.{midOf, putMid}
 use Rattle.runs.specs.Bytes.{Bytes}
 use Rattle.tables.specs.Committed.{Committed, nothing}
-use Rattle.keyline_memory.specs.State.{heldIn, GoodState}
+use Rattle.tables.specs.Insertion.{settled}
+use Rattle.tables.specs.declared.answer.Answer.{Answer}
+use Rattle.keyline_memory.specs.State.{heldIn, GoodState, Insertion}
 use Rattle.queries.specs.Evaluated.{heldBy, GoodEvaluated}
 use Rattle.keyline_memory.specs.declared.state.State.{State}
+use Rattle.keyline_memory.specs.declared.state.Inserted.{Inserted}
 use Rattle.queries.specs.declared.evaluated.Evaluated.{Evaluated}
 use Rattle.wire.specs.Reply.{headLength, valued}
+use Rattle.wire.specs.Reply as reply
 use Rattle.wire.specs.Request.{headerLength, requestOf, lengthOf, needs, firstOf, secondOf, thirdOf, Whole, Script, Malformed, NextOf, Asked}
 use Rattle.wire.specs.Request as request
-use Rattle.script.specs.Run.{roomIn, zeros, inPlace, Replied, ChangeReplied, StateReplied, EvaluatedReplied, Runs, scriptLimit, MeasuredAs, RanAs}
+use Rattle.script.specs.Run.{roomIn, zeros, inPlace, Replied, Changes, ChangeReplied, StateReplied, EvaluatedReplied, Runs, scriptLimit, MeasuredAs, RanAs}
 use Rattle.script.specs.Run as run
 use Rattle.keyline.specs.declared.refusal.Refusal.{Refusal}
 use Rattle.wire.specs.declared.request.Request.{Request}
+use Rattle.wire.specs.declared.reply.Reply.{Reply}
 use Rattle.script.specs.declared.run.Measured.{Measured}
 use Rattle.script.specs.declared.run.Measured.the-variants as measured
 use Rattle.script.specs.declared.run.Ran.the-variants as ran
 use Rattle.wire.specs.Operation.{isKnown}
 use Rattle.wire.specs.declared.operation.Operation.{Operation}
 use Rattle.wire.specs.declared.operation.Change.{Change}
+use Rattle.wire.specs.declared.operation.Change.the-variants as change
 use Rattle.wire.specs.declared.operation.OfState.{OfState}
 use Rattle.wire.specs.declared.operation.OfEvaluated.{OfEvaluated}
 use Rattle.wire.specs.declared.operation.Operation.the-variants as operation
@@ -148,8 +154,13 @@ module _ (s o₀ o : Bytes) (state : State) (evaluated : Evaluated) (at done : �
       (subst (λ z. Replied (heldIn state) (heldBy evaluated) (firstOf z) (secondOf z) (thirdOf z) (roomIn (q .room) (midOf done (doneAfter done q - done) o)) (zeros (q .other)) (q .operation) (heldIn later) (heldBy anew) y) p r))
       (atAfter at q) (doneAfter done q) (omega arith) (omega arith))
 
--- ---- the four kinds of request
-module _ (s o₀ o : Bytes) (state : State) (evaluated : Evaluated) (at done : ℕ) (i : Performing s o₀ o state evaluated at done) (q : Request)
+-- ---- each kind of request
+-- a change's reply, from the set afterwards and the bytes
+replied : {c d later : Committed} {x y z p q out : Bytes} {w : Change} {r : Reply} → Changes c x y z w r d → later ≡ d → out ≡ inPlace r p q → ChangeReplied c x y z p q w later out
+replied {c} {d} {later} {x} {y} {z} {p} {q} {out} {w} {r} t h i =
+    subst (λ b. ChangeReplied c x y z p q w later b) (sym i) (run.change-replied (subst (λ b. Changes c x y z w r b) (sym h) t))
+
+module _ {s o₀ o : Bytes} {state : State} {evaluated : Evaluated} {at done : ℕ} (i : Performing s o₀ o state evaluated at done) {q : Request}
     (x : NextOf (midOf at (length s - at) s) (length o - done) q) where
   pub asked : Asked q (midOf at (length s - at) s) (midOf done (doneAfter done q - done) o)
   asked =
@@ -159,33 +170,48 @@ module _ (s o₀ o : Bytes) (state : State) (evaluated : Evaluated) (at done : �
       let e : doneAfter done q - done ≡ needs q = omega arith in
       record { is = x .is; within = x .within; long = rw e (length-take-le (needs q) (drop done o) (rw (length-drop done o) f)); other = x .other }
 
-  pub changed : (later : State) (y : Bytes) (w : Change) → q .operation ≡ operation.Change w → GoodState later → length y ≡ needs q
+  changed : {later : State} {y : Bytes} {w : Change} → q .operation ≡ operation.Change w → GoodState later → length y ≡ needs q
       → ChangeReplied (heldIn state) (firstOf (midOf at (length s - at) s)) (secondOf (midOf at (length s - at) s)) (thirdOf (midOf at (length s - at) s)) (roomIn (q .room) (midOf done (doneAfter done q - done) o)) (zeros (q .other)) w (heldIn later) y
       → Performing s o₀ (putMid done (doneAfter done q - done) o y) later evaluated (atAfter at q) (doneAfter done q)
-  changed later y w e g n r =
+  changed {later} {y} {w} e g n r =
       advance s o₀ o state evaluated at done i later evaluated y q x g (i .worked-out) n
       (subst (λ k. Replied (heldIn state) (heldBy evaluated) (firstOf (midOf at (length s - at) s)) (secondOf (midOf at (length s - at) s)) (thirdOf (midOf at (length s - at) s)) (roomIn (q .room) (midOf done (doneAfter done q - done) o)) (zeros (q .other)) k (heldIn later) (heldBy evaluated) y) (sym e) (run.changed r))
 
-  pub worked : (anew : Evaluated) (y : Bytes) → q .operation ≡ operation.Evaluate → GoodEvaluated anew → heldBy anew ≡ heldIn state → length y ≡ needs q
+  pub renewed : {fresh : State} {y : Bytes} → q .operation ≡ operation.Change change.New → GoodState fresh → heldIn fresh ≡ nothing → length y ≡ needs q
+      → y ≡ inPlace (valued 0) (roomIn (q .room) (midOf done (doneAfter done q - done) o)) (zeros (q .other))
+      → Performing s o₀ (putMid done (doneAfter done q - done) o y) fresh evaluated (atAfter at q) (doneAfter done q)
+  renewed e g h n r = changed e g n (replied run.new h r)
+
+  -- an insertion, whose set is the one afterwards
+  pub inserted : {a : Answer} {new : Committed} {w : Change}
+      → Changes (heldIn state) (firstOf (midOf at (length s - at) s)) (secondOf (midOf at (length s - at) s)) (thirdOf (midOf at (length s - at) s)) w (reply.inserted a) (settled a (heldIn state) new)
+      → {r : Inserted} → Insertion state r a new → {later : State} → later ≡ r .state → {y : Bytes} → q .operation ≡ operation.Change w → length y ≡ needs q
+      → y ≡ inPlace (reply.inserted (r .answer)) (roomIn (q .room) (midOf done (doneAfter done q - done) o)) (zeros (q .other))
+      → Performing s o₀ (putMid done (doneAfter done q - done) o y) later evaluated (atAfter at q) (doneAfter done q)
+  inserted {a} {new} {w} t {r} j {later} l {y} e n b =
+      changed e (subst GoodState (sym l) (j .good)) n
+      (replied t (ap heldIn l ∙ j .held) (b ∙ ap (λ z. inPlace (reply.inserted z) (roomIn (q .room) (midOf done (doneAfter done q - done) o)) (zeros (q .other))) (j .answer)))
+
+  pub worked : {anew : Evaluated} {y : Bytes} → q .operation ≡ operation.Evaluate → GoodEvaluated anew → heldBy anew ≡ heldIn state → length y ≡ needs q
       → y ≡ inPlace (valued 0) (roomIn (q .room) (midOf done (doneAfter done q - done) o)) (zeros (q .other))
       → Performing s o₀ (putMid done (doneAfter done q - done) o y) state anew (atAfter at q) (doneAfter done q)
-  worked anew y e g h n r =
+  worked {anew} {y} e g h n r =
       advance s o₀ o state evaluated at done i state anew y q x (i .good) g n
       (subst (λ k. Replied (heldIn state) (heldBy evaluated) (firstOf (midOf at (length s - at) s)) (secondOf (midOf at (length s - at) s)) (thirdOf (midOf at (length s - at) s)) (roomIn (q .room) (midOf done (doneAfter done q - done) o)) (zeros (q .other)) k (heldIn state) (heldBy anew) y) (sym e)
       (subst (λ d. Replied (heldIn state) (heldBy evaluated) (firstOf (midOf at (length s - at) s)) (secondOf (midOf at (length s - at) s)) (thirdOf (midOf at (length s - at) s)) (roomIn (q .room) (midOf done (doneAfter done q - done) o)) (zeros (q .other)) operation.Evaluate (heldIn state) d y) (sym h)
       (subst (λ b. Replied (heldIn state) (heldBy evaluated) (firstOf (midOf at (length s - at) s)) (secondOf (midOf at (length s - at) s)) (thirdOf (midOf at (length s - at) s)) (roomIn (q .room) (midOf done (doneAfter done q - done) o)) (zeros (q .other)) operation.Evaluate (heldIn state) (heldIn state) b) (sym r) run.evaluate)))
 
-  pub asked-state : (y : Bytes) (w : OfState) → q .operation ≡ operation.OfState w → length y ≡ needs q
+  pub asked-state : {y : Bytes} {w : OfState} → q .operation ≡ operation.OfState w → length y ≡ needs q
       → StateReplied (heldIn state) (firstOf (midOf at (length s - at) s)) (secondOf (midOf at (length s - at) s)) (roomIn (q .room) (midOf done (doneAfter done q - done) o)) (zeros (q .other)) w y
       → Performing s o₀ (putMid done (doneAfter done q - done) o y) state evaluated (atAfter at q) (doneAfter done q)
-  asked-state y w e n r =
+  asked-state {y} {w} e n r =
       advance s o₀ o state evaluated at done i state evaluated y q x (i .good) (i .worked-out) n
       (subst (λ k. Replied (heldIn state) (heldBy evaluated) (firstOf (midOf at (length s - at) s)) (secondOf (midOf at (length s - at) s)) (thirdOf (midOf at (length s - at) s)) (roomIn (q .room) (midOf done (doneAfter done q - done) o)) (zeros (q .other)) k (heldIn state) (heldBy evaluated) y) (sym e) (run.of-state r))
 
-  pub asked-evaluated : (y : Bytes) (w : OfEvaluated) → q .operation ≡ operation.OfEvaluated w → length y ≡ needs q
+  pub asked-evaluated : {y : Bytes} {w : OfEvaluated} → q .operation ≡ operation.OfEvaluated w → length y ≡ needs q
       → EvaluatedReplied (heldBy evaluated) (firstOf (midOf at (length s - at) s)) (secondOf (midOf at (length s - at) s)) (roomIn (q .room) (midOf done (doneAfter done q - done) o)) (zeros (q .other)) w y
       → Performing s o₀ (putMid done (doneAfter done q - done) o y) state evaluated (atAfter at q) (doneAfter done q)
-  asked-evaluated y w e n r =
+  asked-evaluated {y} {w} e n r =
       advance s o₀ o state evaluated at done i state evaluated y q x (i .good) (i .worked-out) n
       (subst (λ k. Replied (heldIn state) (heldBy evaluated) (firstOf (midOf at (length s - at) s)) (secondOf (midOf at (length s - at) s)) (thirdOf (midOf at (length s - at) s)) (roomIn (q .room) (midOf done (doneAfter done q - done) o)) (zeros (q .other)) k (heldIn state) (heldBy evaluated) y) (sym e) (run.of-evaluated r))
 
@@ -194,9 +220,9 @@ pub record Bounds (s o : Bytes) (at done : ℕ) (q : Request) : Type 0 where
   pub script : atAfter at q ≤ length s
   pub answers : doneAfter done q ≤ length o
 
-pub bounds : {s o₀ o : Bytes} {state : State} {evaluated : Evaluated} {at done : ℕ} (q : Request) → Performing s o₀ o state evaluated at done
+pub bounds : {s o₀ o : Bytes} {state : State} {evaluated : Evaluated} {at done : ℕ} {q : Request} → Performing s o₀ o state evaluated at done
     → NextOf (midOf at (length s - at) s) (length o - done) q → Bounds s o at done q
-bounds {s} {o₀} {o} {state} {evaluated} {at} {done} q i x =
+bounds {s} {o₀} {o} {state} {evaluated} {at} {done} {q} i x =
     let h = subst (λ z. NextOf z (length o - done) q) (rest-lent s at (i .within)) x in
     let a = h .within in
     let b = h .fits in

@@ -3,7 +3,7 @@
 use crate::ask;
 use keyline_memory::state::State;
 use queries::evaluated::Evaluated;
-use wire::operation::Change;
+use tables::answer::Answer;
 use wire::operation::OfEvaluated;
 use wire::operation::OfState;
 use wire::reply;
@@ -16,9 +16,9 @@ ghost use Prim.Native.Nat.{_+_, _≤_};
 ghost use lib.ListN.{length};
 ghost use Rattle.keyline_memory.specs.State.{heldIn, GoodState};
 ghost use Rattle.queries.specs.Evaluated.{heldBy, GoodEvaluated};
-ghost use Rattle.wire.specs.Reply.{headLength, valued};
-ghost use Rattle.wire.specs.Request.{Asked, otherLimit, firstOf, secondOf, thirdOf};
-ghost use Rattle.script.specs.Run.{roomIn, zeros, inPlace, ChangeReplied, StateReplied, EvaluatedReplied};
+ghost use Rattle.wire.specs.Reply.{headLength, valued, inserted};
+ghost use Rattle.wire.specs.Request.{Asked, otherLimit, firstOf, secondOf};
+ghost use Rattle.script.specs.Run.{roomIn, zeros, inPlace, StateReplied, EvaluatedReplied};
 
 // The largest second room.
 const OTHER_LIMIT: usize = 255;
@@ -118,35 +118,17 @@ fn answer_plain(r: Reply, room: usize, other: usize, out: &mut [u8])
     put(out, room, r, &second[0..other]);
 }
 
-pub fn answer_evaluate(q: Request, out: &mut [u8])
+// The reply of an operation that is always done.
+pub fn answer_done(q: Request, out: &mut [u8])
     requires { ⌜ (length (now out) ≡ headLength + q .room + q .other) × (q .other ≤ otherLimit) ⌝ }
     ensures { λ _. ⌜ now (out .exit) ≡ inPlace (valued 0) (roomIn (q .room) (now (out .entry))) (zeros (q .other)) ⌝ }
 {
     answer_plain(reply::valued(0), q.room, q.other, out);
 }
 
-// Answers the set afterwards.
-pub fn answer_change(
-    state: State,
-    asked: Change,
-    q: Request,
-    script: &[u8],
-    out: &mut [u8],
-) -> State
-    requires { ⌜ GoodState state × Asked q (now script) (now out) ⌝ }
-    ensures { λ r. ⌜ GoodState r × ChangeReplied (heldIn state) (firstOf (now (script .entry))) (secondOf (now (script .entry))) (thirdOf (now (script .entry))) (roomIn (q .room) (now (out .entry))) (zeros (q .other)) asked (heldIn r) (now (out .exit)) ⌝ }
+pub fn answer_inserted(told: Answer, q: Request, out: &mut [u8])
+    requires { ⌜ (length (now out) ≡ headLength + q .room + q .other) × (q .other ≤ otherLimit) ⌝ }
+    ensures { λ _. ⌜ now (out .exit) ≡ inPlace (inserted told) (roomIn (q .room) (now (out .entry))) (zeros (q .other)) ⌝ }
 {
-    let a = HEADER + q.first;
-    let b = a + q.second;
-    let c = b + q.third;
-    let r = ask::change(
-        state,
-        asked,
-        &script[HEADER..a],
-        &script[a..b],
-        &script[b..c],
-    );
-    let told = r.reply;
-    answer_plain(told, q.room, q.other, out);
-    r.state
+    answer_plain(reply::inserted(told), q.room, q.other, out);
 }

@@ -2,49 +2,40 @@
 use keyline_memory::state::Inserted;
 use keyline_memory::state::State;
 use queries::evaluated::Evaluated;
-use wire::operation::Change;
 use wire::operation::OfEvaluated;
 use wire::operation::OfState;
 use wire::reply;
 use wire::reply::Reply;
+use wire::request::HEADER;
+use wire::request::Request;
 ghost use mathlib.Core.Path.{_≡_};
-ghost use Rattle.keyline_memory.specs.State.{heldIn, GoodState};
+ghost use Prim.Native.Nat.{_≤_};
+ghost use lib.ListN.{length};
+ghost use Rattle.keyline_memory.specs.State.{heldIn, GoodState, Insertion};
 ghost use Rattle.queries.specs.Evaluated.{heldBy, GoodEvaluated};
-ghost use Rattle.script.specs.Run.{Changes, StateAnswers, EvaluatedAnswers};
-ghost use Rattle.wire.specs.Reply.{valued, inserted};
-ghost use Rattle.tables.specs.Committed.{nothing};
+ghost use Rattle.tables.specs.Insertion.{delegationAnswer, delegationAdded, revocationAnswer, revocationAdded};
+ghost use Rattle.wire.specs.Request.{requestOf, lengthOf, firstOf, secondOf, thirdOf};
+ghost use Rattle.script.specs.Run.{StateAnswers, EvaluatedAnswers};
 
-pub struct Changed {
-    pub reply: Reply,
-    pub state: State,
+// The insertions, with the request's arguments.
+pub fn insert_delegation(state: State, q: Request, script: &[u8]) -> Inserted
+    requires { ⌜ GoodState state × (q ≡ requestOf (now script)) × (lengthOf q ≤ length (now script)) ⌝ }
+    ensures { λ r. ⌜ Insertion state r (delegationAnswer (heldIn state) (firstOf (now (script .entry))) (secondOf (now (script .entry))) (thirdOf (now (script .entry)))) (delegationAdded (heldIn state) (firstOf (now (script .entry))) (secondOf (now (script .entry))) (thirdOf (now (script .entry)))) ⌝ }
+{
+    let a = HEADER + q.first;
+    let b = a + q.second;
+    let c = b + q.third;
+    state.insert_delegation(&script[HEADER..a], &script[a..b], &script[b..c])
 }
 
-fn fresh() -> Changed
-    ensures { λ r. ⌜ GoodState (r .state) × (r .reply ≡ valued 0) × (heldIn (r .state) ≡ nothing) ⌝ }
+pub fn insert_revocation(state: State, q: Request, script: &[u8]) -> Inserted
+    requires { ⌜ GoodState state × (q ≡ requestOf (now script)) × (lengthOf q ≤ length (now script)) ⌝ }
+    ensures { λ r. ⌜ Insertion state r (revocationAnswer (heldIn state) (firstOf (now (script .entry))) (secondOf (now (script .entry))) (thirdOf (now (script .entry)))) (revocationAdded (heldIn state) (firstOf (now (script .entry))) (secondOf (now (script .entry))) (thirdOf (now (script .entry)))) ⌝ }
 {
-    let reply = reply::valued(0);
-    let state = keyline_memory::state::new();
-    Changed { reply, state }
-}
-
-fn settle(r: Inserted) -> Changed
-    ensures { λ c. ⌜ (c .reply ≡ inserted (r .answer)) × (c .state ≡ r .state) ⌝ }
-{
-    let answer = r.answer;
-    let reply = reply::inserted(answer);
-    let state = r.state;
-    Changed { reply, state }
-}
-
-pub fn change(state: State, what: Change, x: &[u8], y: &[u8], z: &[u8]) -> Changed
-    requires { ⌜ GoodState state ⌝ }
-    ensures { λ r. ⌜ GoodState (r .state) × Changes (heldIn state) (now (x .entry)) (now (y .entry)) (now (z .entry)) what (r .reply) (heldIn (r .state)) ⌝ }
-{
-    match what {
-        Change::New => fresh(),
-        Change::InsertDelegation => settle(state.insert_delegation(x, y, z)),
-        Change::InsertRevocation => settle(state.insert_revocation(x, y, z)),
-    }
+    let a = HEADER + q.first;
+    let b = a + q.second;
+    let c = b + q.third;
+    state.insert_revocation(&script[HEADER..a], &script[a..b], &script[b..c])
 }
 
 // Questions put to the set, with two rooms.

@@ -1,8 +1,11 @@
 // A whole script: measured first, so that a refused one touches nothing, then performed request by request.
 use crate::answer;
+use crate::ask;
 use keyline::refusal::Refusal;
 use keyline_memory::state::State;
 use queries::evaluated::Evaluated;
+use tables::answer::is_added;
+use wire::operation::Change;
 use wire::operation::Operation;
 use wire::reply::HEAD;
 use wire::request;
@@ -48,6 +51,7 @@ fn measure(script: &[u8]) -> Measured
     Measured::Needs(n)
 }
 
+// Copying the set is most of what an insertion takes, so it is stored again only where it was added to.
 fn perform(script: &[u8], answers: &mut [u8])
     requires { ⌜ Script (now script) (length (now answers)) ⌝ }
     ensures { λ _. ⌜ Runs nothing nothing (now (script .entry)) (now (answers .entry)) (now (answers .exit)) ⌝ }
@@ -64,18 +68,31 @@ fn perform(script: &[u8], answers: &mut [u8])
         done = from + HEAD + q.room + q.other;
         let what = q.operation;
         match what {
-            Operation::Change(asked) => {
-                state = answer::answer_change(
-                    state,
-                    asked,
-                    q,
-                    &script[start..],
-                    &mut answers[from..done],
-                );
-            }
+            Operation::Change(asked) => match asked {
+                Change::New => {
+                    state = keyline_memory::state::new();
+                    answer::answer_done(q, &mut answers[from..done]);
+                }
+                Change::InsertDelegation => {
+                    let r = ask::insert_delegation(state, q, &script[start..]);
+                    let told = r.answer;
+                    answer::answer_inserted(told, q, &mut answers[from..done]);
+                    if is_added(told) {
+                        state = r.state;
+                    }
+                }
+                Change::InsertRevocation => {
+                    let r = ask::insert_revocation(state, q, &script[start..]);
+                    let told = r.answer;
+                    answer::answer_inserted(told, q, &mut answers[from..done]);
+                    if is_added(told) {
+                        state = r.state;
+                    }
+                }
+            },
             Operation::Evaluate => {
                 evaluated = state.evaluate();
-                answer::answer_evaluate(q, &mut answers[from..done]);
+                answer::answer_done(q, &mut answers[from..done]);
             }
             Operation::OfState(asked) => {
                 answer::answer_state(state, asked, q, &script[start..], &mut answers[from..done]);

@@ -3,8 +3,8 @@ use mathlib.Core.Path.{ap, _∙_}
 use denote.Ref.{now}
 use Rattle.script.specs.Run.{inPlace, roomIn, zeros}
 use borrow.Author.Needs.{needs}
-use Rattle.script.proofs.answer.answer_evaluate.Statement.{statement}
-use Rattle.script.proofs.answer.answer_evaluate.Tie as tie
+use Rattle.script.proofs.answer.answer_done.Statement.{statement}
+use Rattle.script.proofs.answer.answer_done.Tie as tie
 
 valued-requires : tie.Need-valued-requires
 valued-requires c κs = search needs
@@ -18,6 +18,6 @@ same-length c = search needs
 returns : tie.Need-returns
 returns c = c .before .before .answer-plain .ensures ∙ ap (λ r. inPlace r (roomIn (c .before .before .before .before .before .before .args .q .room) (now (c .before .before .before .before .before .before .args .out))) (zeros (c .before .before .before .before .before .before .args .q .other))) (c .before .before .before .before .valued .ensures)
 
-pub answer-evaluate-spec : {M : Type 1} → statement M
-answer-evaluate-spec =
+pub answer-done-spec : {M : Type 1} → statement M
+answer-done-spec =
     tie.close (tie.spec valued-requires answer-plain-requires same-length returns)
