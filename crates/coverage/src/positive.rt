@@ -1,20 +1,14 @@
 // Stratum 1: positive power. Every held delegation is usable at its stated power, and nobody is excluded.
 
-use places::ADMIN;
 use places::DELEGATION_LIMIT;
-use places::KEY_LIMIT;
-use places::KeyPlace;
 use places::wide;
-use search::Levels;
 ghost use mathlib.Core.Path.{_≡_};
-ghost use Prim.Native.Nat.{ℕ, _+_, _*_, _<_, _≤_};
-ghost use lib.ListN.{getD, length};
+ghost use Prim.Native.Nat.{ℕ, _+_, _<_, _≤_};
+ghost use lib.ListN.{getD};
 ghost use Rattle.places.specs.Limits.{keyLimit, delegationLimit};
 ghost use Rattle.rules.specs.Rules.{Admin};
 ghost use Rattle.search.specs.Sets.{Word};
-ghost use Rattle.search.specs.Levels.{height};
 ghost use Rattle.coverage.specs.Arrays.{Any, Filled};
-ghost use Rattle.coverage.specs.Rows.{Written, Cells};
 
 // The subjects of the first n delegations.
 pub fn subjects(subject: &[u8; DELEGATION_LIMIT], n: usize) -> u64
@@ -42,34 +36,4 @@ pub fn powers(power: &[u8; DELEGATION_LIMIT], n: usize) -> [u8; DELEGATION_LIMIT
         d += 1;
     }
     g
-}
-
-// Puts the subject's row, a byte for each key, at its place among the rows.
-fn row(s: usize, found: &Levels, rows: &mut [u8; KEY_LIMIT * KEY_LIMIT])
-    requires { ⌜ (s < keyLimit) × (length (now rows) ≡ keyLimit * keyLimit) ⌝ }
-    ensures { λ _. ⌜ Written s keyLimit (height (now (found .entry)) s) (now (rows .entry)) (now (rows .exit)) ⌝ }
-{
-    let mut x = 0;
-    while x < KEY_LIMIT {
-        rows[s * KEY_LIMIT + x] = search::levels::level(found, KeyPlace(s), KeyPlace(x));
-        x += 1;
-    }
-}
-
-// The rows of all keys: what the search found over a subject; over any other key only the key itself stands, at Admin.
-pub fn rows(subjects: u64, found: &Levels) -> [u8; KEY_LIMIT * KEY_LIMIT]
-    ensures { λ rows. ⌜ Cells subjects (now (found .entry)) keyLimit rows ⌝ }
-{
-    let mut rows = [0u8; KEY_LIMIT * KEY_LIMIT];
-    let mut s = 0;
-    while s < KEY_LIMIT {
-        let r = s;
-        s += 1;
-        if keyset::has(subjects, r) {
-            row(r, found, &mut rows);
-        } else {
-            rows[r * KEY_LIMIT + r] = ADMIN as u8 + 1;
-        }
-    }
-    rows
 }

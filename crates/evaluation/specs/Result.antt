@@ -1,11 +1,8 @@
 -- What an evaluation is: all that the questions asked of it need. Assumes nothing.
-use Prim.Native.Nat.{ℕ, _<_}
-use Rattle.places.specs.Limits.{keyLimit}
 use Rattle.rules.specs.Rules as rules
-use Rattle.rules.specs.Rules.{PositiveIs}
-use Rattle.rules.specs.Rows.{levelOf}
+use Rattle.rules.specs.Rules.{Positive}
 use Rattle.search.specs.Sets.{Word}
-use Rattle.coverage.specs.Rows.{cell}
+use Rattle.search.specs.Levels.{Found}
 use Rattle.coverage.specs.Places.{places, Fit, Subject}
 use Rattle.coverage.specs.Coverage.{Nets}
 use Rattle.caps.specs.Caps.{Capped}
@@ -17,8 +14,8 @@ pub record Evaluated (v : Evaluation) : Type 0 where
   pub fit : Fit (v .facts)
   -- the subjects of held delegations
   pub subjects : Word (v .subjects) (Subject (v .facts))
-  -- the positive rows
-  pub reaches : (s x : ℕ) → s < keyLimit → x < keyLimit → PositiveIs (places (v .facts)) s x (levelOf (cell (v .reaches) s x))
+  -- positive power over them
+  pub found : Found (Positive (places (v .facts))) (v .subjects) (v .found)
   -- N(d) of the covered delegations, and 0 for the others
   pub excluded : Nets (v .facts) (v .excluded)
   -- the grades: exactly the live delegations have one, which is c(d) of document 01 plus one

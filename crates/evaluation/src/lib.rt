@@ -12,6 +12,7 @@ use coverage::Facts;
 use places::DELEGATION_LIMIT;
 use places::KEY_LIMIT;
 use places::LEVEL_COUNT;
+use search::Levels;
 ghost use mathlib.Core.Path.{_≡_};
 ghost use Rattle.coverage.specs.Places.{Fit};
 ghost use Rattle.evaluation.specs.Result.{Evaluated};
@@ -20,8 +21,8 @@ pub struct Evaluation {
     pub facts: Facts,
     // the subjects of held delegations
     subjects: u64,
-    // at subject * KEY_LIMIT + key the key's byte in the subject's positive row
-    reaches: [u8; KEY_LIMIT * KEY_LIMIT],
+    // who stands positively over a subject, and at which level
+    found: Levels,
     // N(d) where d is covered, else 0
     excluded: [u64; DELEGATION_LIMIT],
     // of the live ones, else 0
@@ -51,7 +52,6 @@ pub fn evaluate(facts: Facts) -> Evaluation
         &edges.earlier,
         &mut found,
     );
-    let reaches = coverage::positive::rows(subjects, &found);
     let revokers = coverage::revokers(&facts.revoker, &facts.target, m, n);
     let excluded = coverage::coverage(&facts.subject, n, subjects, &revokers, &found);
     let contexts = coverage::contexts::contexts(&facts.target, m, n, &excluded);
@@ -60,7 +60,7 @@ pub fn evaluate(facts: Facts) -> Evaluation
     Evaluation {
         facts,
         subjects,
-        reaches,
+        found,
         excluded,
         grades,
     }

@@ -1,7 +1,7 @@
-// Positive power, read off the rows that the evaluation keeps.
+// Positive power: what the search found over a subject; over any other key only the key itself stands, at Admin.
 
 use crate::Evaluation;
-use places::KEY_LIMIT;
+use places::ADMIN;
 use places::KeyPlace;
 ghost use Prim.Native.Nat.{_<_};
 ghost use Rattle.places.specs.Limits.{keyLimit};
@@ -16,7 +16,9 @@ pub fn positive_power(v: Evaluation, subject: KeyPlace, key: KeyPlace) -> u8
     ensures { λ r. ⌜ PositiveIs (places (v .facts)) (subject .0) (key .0) (levelOf r) ⌝ }
 {
     let s = subject.0;
-    let x = key.0;
-    let reaches = v.reaches;
-    reaches[s * KEY_LIMIT + x]
+    if keyset::has(v.subjects, s) {
+        let found = v.found;
+        return search::levels::level(&found, subject, key);
+    }
+    if key.0 == s { ADMIN as u8 + 1 } else { 0 }
 }

@@ -8,18 +8,17 @@ use native.Mathlib.Omega.{arith}
 use native.Mathlib.Decide.{ℕ-discrete}
 use lib.ListN.{getD}
 use Rattle.keyset.specs.Word.{bit}
-use Rattle.keyset.proofs.Laws.{bit-two}
-use Rattle.places.specs.Limits.{keyLimit, levelCount}
+use Rattle.places.specs.Limits.{levelCount}
 use Rattle.rules.specs.Rules.{Admin, Node, StandingIs, is-revoked, is-unsupported, revoked, unsupported, Nobody, Positive, Effective, Answer, absent, level, LiveCovered, LiveUncovered, Live, PositiveIs, EffectiveIs, ConveyedIs, Conveys, cap, plain, nothing}
-use Rattle.rules.proofs.Derivations.Monotone.{mono, stands-named}
+use Rattle.rules.proofs.Derivations.Monotone.{mono}
 use Rattle.rules.proofs.Derivations.Answers.{answer-carry, greatest-of}
 use Rattle.rules.proofs.Evaluation.LiveSet.{effective-exists}
 use Rattle.rules.specs.Rows.{levelOf}
 use Rattle.rules.proofs.Derivations.Rows.{self-answer, no-subject}
 use Rattle.search.specs.Sets.{Word}
-use Rattle.search.specs.Levels.{height, Found}
-use Rattle.coverage.specs.Arrays.{Below, Filled}
-use Rattle.coverage.specs.Rows.{cell, Cells}
+use Rattle.search.specs.Levels.{height, word, Found}
+use Rattle.search.proofs.Laws.Answer.{found-only, found-has}
+use Rattle.coverage.specs.Arrays.{Filled}
 use Rattle.coverage.specs.Places.{places, Fit, Grades, Names, Subject, Over}
 use Rattle.coverage.specs.Coverage.{NamedBelow}
 use Rattle.caps.specs.Caps.{level-of, Capped}
@@ -52,49 +51,35 @@ module _ (e : Facts) (fit : Fit e) (all : List ℕ) (F : Filled (e .delegations)
       (λ d h. let q = F .here d h in omega arith) (λ n b. absurd (no-bit n b))
       (λ d h. let q = pred-is (getD all d 0) (getD (e .power) d 0) (F .here d h) in omega arith) s)
 
-module _ (e : Facts) (subjects : ℕ) (found rows : List ℕ) (W : Word subjects (Subject e)) (F : Found (Positive (places e)) subjects found) (C : Cells subjects found keyLimit rows) where
-  no-subject-of : (s : ℕ) → bit subjects s ≡ 0 → (d : ℕ) → d < e .delegations → getD (e .subject) d 0 ≡ s → ⊥
-  no-subject-of s z d h p = let b = W .has s (record { place = d; lt = h; is = p }) in omega arith
+-- of a key that is no subject of a held delegation nothing is asked of the search: only the key itself stands over it
+module _ {v : Evaluation} (K : Evaluated v) {s : ℕ} (z : bit (v .subjects) s ≡ 0) where
+  no-subject-of : (d : ℕ) → d < v .facts .delegations → getD (v .facts .subject) d 0 ≡ s → ⊥
+  no-subject-of d h p = let b = K .subjects .has s (record { place = d; lt = h; is = p }) in omega arith
 
-  alone : (s x : ℕ) → s < keyLimit → x < keyLimit → bit subjects s ≡ 0 → Dec (x ≡ s) → PositiveIs (places e) s x (levelOf (cell rows s x))
+  pub alone-itself : {x : ℕ} → x ≡ s → PositiveIs (places (v .facts)) s x (levelOf (suc Admin))
   unfolding levelOf
-  alone s x sl xl z (yes q) =
-      subst (λ (y : ℕ). PositiveIs (places e) s y (levelOf (cell rows s y))) (sym q)
-      (subst (λ (y : ℕ). PositiveIs (places e) s s (levelOf y)) (sym (C .self s sl z)) (self-answer (λ y. y)))
-  alone s x sl xl z (no n) =
-      subst (λ (y : ℕ). PositiveIs (places e) s x (levelOf y)) (sym (C .none s x sl xl z n)) (no-subject n (no-subject-of s z))
+  alone-itself {x} e = subst (λ (y : ℕ). PositiveIs (places (v .facts)) s y (levelOf (suc Admin))) (sym e) (self-answer (λ y. y))
 
-  pub reaches-is : (s x : ℕ) → s < keyLimit → x < keyLimit → PositiveIs (places e) s x (levelOf (cell rows s x))
-  reaches-is s x sl xl =
-      ⊎-elim (λ z. alone s x sl xl z (ℕ-discrete x s))
-      (λ k. subst (λ (y : ℕ). PositiveIs (places e) s x (levelOf y)) (sym (C .found-at s x sl xl k)) (F .answer s x k)) (bit-two subjects s)
+  pub alone-other : {x : ℕ} → (x ≡ s → ⊥) → PositiveIs (places (v .facts)) s x (levelOf 0)
+  unfolding levelOf
+  alone-other n = no-subject n no-subject-of
 
--- a key's byte says whether it is a node
-module _ (v : Evaluation) (K : Evaluated v) (s x : ℕ) (sl : s < keyLimit) (xl : x < keyLimit) where
-  node-of : (b : ℕ) → PositiveIs (places (v .facts)) s x (levelOf b) → 0 < b → Node (places (v .facts)) s x
-  node-of zero a h = absurd (omega arith)
-  node-of (suc l) a h = record { level = l; stands = answer-holds l a }
-
-  pub node-yes : 0 < cell (v .reaches) s x → Node (places (v .facts)) s x
-  node-yes h = node-of (cell (v .reaches) s x) (K .reaches s x sl xl) h
-
-  pub node-no : cell (v .reaches) s x ≡ 0 → Node (places (v .facts)) s x → ⊥
-  node-no z n = let h = answer-most (cell (v .reaches) s x) (K .reaches s x sl xl) (n .level) (n .stands) in omega arith
-
--- a key that stands is a key
-module _ (v : Evaluation) (K : Evaluated v) (s : ℕ) (sl : s < keyLimit) where
-  key-lt : (x l : ℕ) → Positive (places (v .facts)) s x l → x < keyLimit
-  key-lt x l p = ⊎-elim (λ e. omega arith) (λ d. omega (arith, K .fit .audience-lt (d .0), d .2)) (stands-named p)
-
-  pub nodes-are : (w top : ℕ) → top ≡ keyLimit → Word w (Below top (λ x. 0 < cell (v .reaches) s x)) → Word w (Node (places (v .facts)) s)
-  nodes-are w top e W = record {
-    has = λ x n. let xl = key-lt x (n .level) (n .stands) in W .has x (record { lt = omega arith; is = pos x xl n (cell (v .reaches) s x) refl });
-    only = λ x b. let a = W .only x b in node-yes v K s x sl (omega (arith, a .lt)) (a .is);
-  }
+  pub node-itself : {w : ℕ} → bit w s ≡ 1 → ((x : ℕ) → (x ≡ s → ⊥) → bit w x ≡ 0) → Word w (Node (places (v .facts)) s)
+  node-itself {w} b o = record { has = λ x n. has x n (ℕ-discrete x s); only = λ x m. only x m (ℕ-discrete x s) }
     where
-      pos : (x : ℕ) → x < keyLimit → Node (places (v .facts)) s x → (b : ℕ) → cell (v .reaches) s x ≡ b → 0 < cell (v .reaches) s x
-      pos x xl n zero q = absurd (node-no v K s x sl xl q n)
-      pos x xl n (suc b) q = omega arith
+      has : (x : ℕ) → Node (places (v .facts)) s x → Dec (x ≡ s) → bit w x ≡ 1
+      has x n (yes e) = ap (λ (y : ℕ). bit w y) e ∙ b
+      has x n (no f) = absurd (let m = answer-most 0 (alone-other f) (n .level) (n .stands) in omega arith)
+
+      only : (x : ℕ) → bit w x ≡ 1 → Dec (x ≡ s) → Node (places (v .facts)) s x
+      only x m (yes e) = record { level = Admin; stands = subst (λ (y : ℕ). Positive (places (v .facts)) s y Admin) (sym e) (answer-holds Admin (alone-itself refl)) }
+      only x m (no f) = absurd (let q = o x f in omega arith)
+
+pub nodes-found : {v : Evaluation} (K : Evaluated v) {s : ℕ} → bit (v .subjects) s ≡ 1 → {w : ℕ} → w ≡ word (v .found) s 0 → Word w (Node (places (v .facts)) s)
+nodes-found {v} K {s} k {w} e = subst (λ (y : ℕ). Word y (Node (places (v .facts)) s)) (sym e) (record {
+  has = λ x n. found-has (K .found) s x k 0 (record { level = n .level; more = omega arith; holds = n .stands });
+  only = λ x b. let m = found-only (K .found) s x k 0 (omega arith) b in record { level = m .level; stands = m .holds };
+})
 
 -- ---- effective
 
