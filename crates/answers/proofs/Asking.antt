@@ -15,7 +15,7 @@ use Rattle.rules.proofs.Stores.Places.{positive-bytes, effective-bytes, caps-by
 use Rattle.runs.specs.Bytes.{Bytes, eqBytes, runAt}
 use Rattle.runs.specs.Members.{has, place}
 use Rattle.runs.specs.Table.{runs}
-use Rattle.runs.proofs.BoolLaws.{or, or-right}
+use Rattle.runs.proofs.BoolLaws.{or, or-left, or-right}
 use Rattle.runs.proofs.ByteLaws.{eq-refl}
 use Rattle.runs.proofs.MemberLaws.{has-append}
 use Rattle.tables.specs.Committed.{Delegation, Committed, delegationKeys, keysOf, keysIn}
@@ -28,10 +28,6 @@ use Rattle.answers.specs.Facts.{FactsOf}
 use Rattle.answers.proofs.Places.{InUse, keyAt, table}
 
 -- ## Keys of held delegations
-or-left : (a b : Bool) → a ≡ true → or a b ≡ true
-or-left true b e = refl
-or-left false b e = let z : _≡_ {A = ℕ} 0 1 = cc in absurd (omega arith)
-
 key-in : (l : List Delegation) (d : Delegation) (k : Bytes) → List·Memᴰ d l → has (delegationKeys d) k ≡ true → has (keysOf delegationKeys l) k ≡ true
 unfolding keysOf
 key-in [] d k m h = absurd (List·Memᴰ·not-nil m)

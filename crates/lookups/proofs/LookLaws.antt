@@ -19,7 +19,7 @@ use Rattle.keyline.proofs.Levels.{level-byte}
 use Rattle.codec.proofs.Writing.{writes}
 use Rattle.places.specs.declared.DelegationPlace.{DelegationPlace}
 use Rattle.runs.specs.Bytes.{Bytes, runLength, runAt}
-use Rattle.runs.proofs.ByteLaws.{length-run}
+use Rattle.runs.proofs.ByteLaws.{length-run, run-part}
 use Rattle.keyline.specs.Limits.{keyLength, digestLength, payloadLength}
 use Rattle.tables.specs.Committed.{payloadOf}
 use Rattle.tables.specs.Columns.{powerOf}
@@ -50,11 +50,6 @@ unfolding afterEncode
 write-fits a s c o p ha hs hc r =
     let e = encoded-long a s c (byteOf p) ha hs in
     ap (λ w. filled w (encoded a s (byteOf p) c) o) (answer-fits a s c o (byteOf p) p ha hs hc (level-byte p) (omega arith))
-
--- a run, as a part of its table
-pub run-part : (t : Bytes) (i : ℕ) → take (runLength * i + runLength - runLength * i) (drop (runLength * i) t) ≡ runAt t i
-unfolding runAt
-run-part t i = let e : runLength * i + runLength - runLength * i ≡ runLength = omega arith in rw e
 
 -- a citation, or nothing
 pub cited-part : (t : Bytes) (i k : ℕ) (b : Bool) → k ≡ cond b runLength 0 → take (runLength * i + k - runLength * i) (drop (runLength * i) t) ≡ cond b (runAt t i) []

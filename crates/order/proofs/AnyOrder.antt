@@ -3,7 +3,7 @@
 -- certificates say; what is held at any time in the other order is a part of that, so there is room and no conflict (`welcome`).
 use Prim.Native.Nat.{_+_, _≤_, _<_}
 use mathlib.Core.Path.{_≡_, refl, sym, ap, _∙_, subst}
-use mathlib.Core.Bool.{Bool, true, false, cond}
+use mathlib.Core.Bool.{Bool, true, false, cond, false≢true}
 use mathlib.Core.Logic.{_⊎_, inl, inr}
 use mathlib.Core.List.{List, [], _∷_, List·Memᴰ, List·Memᴰ·head, List·Memᴰ·tail, List·Memᴰ·cases-cons, List·Memᴰ·not-nil}
 use native.Mathlib.Omega.{arith}
@@ -12,7 +12,6 @@ use borrow.Author.Tests.{eq-eqb, lt-ltb, le-ltb}
 use Rattle.keyline.specs.Limits.{keyLength, digestLength, keyLimit, delegationLimit, revocationLimit}
 use Rattle.runs.specs.Bytes.{Bytes}
 use Rattle.runs.specs.Members.{has, fresh}
-use Rattle.runs.proofs.MemberLaws.{false-true}
 use Rattle.runs.proofs.FreshLaws.{none-distinct}
 use Rattle.tables.specs.Committed.{Delegation, Revocation, Committed, nothing, noDelegation, noRevocation, delegationDigests, revocationDigests, delegationWith, revocationWith, delegationKeys, revocationKeys, keysOf, keysIn, keys, sameContent, sameRevoked}
 use Rattle.tables.specs.Insertion.{delegationAnswer, delegationCheck, acceptedAnswer, keysAnswer, delegationFrom, revocationAnswer, revocationCheck, revocationSettled, revocationFrom}
@@ -122,7 +121,7 @@ said-on w (by-delegation {g = g} s m) = by-delegation s (w .delegations g m)
 said-on w (by-revocation {v = v} s m) = by-revocation s (w .revocations v m)
 
 first-rest : (a b : Bool) → cond a false b ≡ true → (a ≡ false) × (b ≡ true)
-first-rest true b h = absurd (false-true h)
+first-rest true b h = absurd (false≢true h)
 first-rest false b h = (refl, h)
 
 split : (c : Committed) (k : Certificate) (ks : List Certificate) → noneRefused c (k ∷ ks) ≡ true → (isRefused (answerTo c k) ≡ false) × (noneRefused (heldAfter c k) ks ≡ true)
@@ -181,7 +180,7 @@ after (k ∷ ks) c b h =
 
 -- a certificate is of one kind
 delegates-not : {k : Certificate} {g : Delegation} {v : Revocation} → SaysDel k g → SaysRev k v → ⊥
-delegates-not s t = false-true (sym (revokes-kind t) ∙ delegates-kind s)
+delegates-not s t = false≢true (sym (revokes-kind t) ∙ delegates-kind s)
   where
     kind : Certificate → Bool
     kind (delegation d i p) = true

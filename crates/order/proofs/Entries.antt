@@ -2,7 +2,7 @@
 -- (`entry`). What such an insertion keeps (`built`), and which certificates are held after it.
 use Prim.Native.Nat.{ℕ, _+_, _≤_, _<_}
 use mathlib.Core.Path.{_≡_, refl, sym, ap, _∙_, subst}
-use mathlib.Core.Bool.{Bool, true, false, cond}
+use mathlib.Core.Bool.{Bool, true, false, cond, false≢true}
 use mathlib.Core.Logic.{_⊎_, inl, inr}
 use mathlib.Core.List.{List, [], _∷_, _++_, List·Memᴰ, List·Memᴰ·head, List·Memᴰ·append-cases, List·Memᴰ·eq-of-singleton, Memᴰ·append-left, Memᴰ·append-right}
 use native.Mathlib.Omega.{arith}
@@ -22,7 +22,6 @@ use Rattle.runs.specs.Bytes.{Bytes, eqBytes}
 use Rattle.runs.specs.Members.{has, fresh, Distinct}
 use Rattle.runs.proofs.BoolLaws.{both-true}
 use Rattle.runs.proofs.ByteLaws.{eq-true}
-use Rattle.runs.proofs.MemberLaws.{false-true}
 use Rattle.tables.specs.Committed.{Delegation, Revocation, Committed, noDelegation, noRevocation, delegationDigests, revocationDigests, delegationWith, revocationWith, delegationKeys, revocationKeys, keys, sameContent, sameParts, sameRevoked}
 use Rattle.tables.specs.Insertion.{Seen, seenDelegation, seenRevocation, heldAnswer, keysAnswer, acceptedAnswer, payloadAnswer, delegationFrom, delegationCheck, delegationAnswer, delegationAdded, withDelegation, revocationFrom, revocationSettled, revocationCheck, revocationAnswer, revocationAdded, withRevocation, readDelegation, settled}
 use Rattle.tables.specs.declared.answer.Answer.{Answer}
@@ -164,7 +163,7 @@ module _ (c : Committed) (b : Built c) where
   delegation-entry d i p h = go (delegationAnswer c d i p) refl h
     where
       go : (a : Answer) → delegationAnswer c d i p ≡ a → isRefused a ≡ false → Entry c (delegation d i p) (settled a c (delegationAdded c d i p))
-      go (Refused r) e k = absurd (false-true (sym k))
+      go (Refused r) e k = absurd (false≢true (sym k))
       go Added e k =
           let q = delegation-added (seenDelegation c d) d i p e in
           let g = delegationFrom d i p (q .power) in
@@ -183,7 +182,7 @@ module _ (c : Committed) (b : Built c) where
   revocation-entry d i x h = go (revocationAnswer c d i x) refl h
     where
       go : (a : Answer) → revocationAnswer c d i x ≡ a → isRefused a ≡ false → Entry c (revocation d i x) (settled a c (revocationAdded c d i x))
-      go (Refused r) e k = absurd (false-true (sym k))
+      go (Refused r) e k = absurd (false≢true (sym k))
       go Added e k =
           let q = revocation-added (seenRevocation c d) d i x e in
           new-revocation (record { digest = q .digest; issuer = q .issuer; revoked = q .revoked; is = refl }) (q .new) (q .room) (q .keys)

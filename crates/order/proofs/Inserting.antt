@@ -2,32 +2,23 @@
 -- (`fewer`, `keys-fit`, `keys-few`). Entries and AnyOrder count with these. Rests on the laws of `runs`.
 use Prim.Native.Nat.{suc, _+_, _≤_, _<_}
 use mathlib.Core.Path.{_≡_, refl, sym, ap, _∙_, subst}
-use mathlib.Core.Bool.{Bool, true, false, cond}
+use mathlib.Core.Bool.{Bool, true, false, cond, false≢true}
 use mathlib.Core.Logic.{_⊎_, inl, inr}
 use mathlib.Core.List.{List, [], _∷_, _++_, map, List·Memᴰ, List·Memᴰ·head, List·Memᴰ·tail, List·Memᴰ·cases-cons, List·Memᴰ·not-nil, List·Memᴰ·append-cases, List·Memᴰ·eq-of-singleton, Memᴰ·map, Memᴰ·of-map}
 use native.Mathlib.Omega.{arith}
-use lib.ListN.{length, getD, length-append}
+use lib.ListN.{length, getD, length-append, length-map}
 use Rattle.runs.specs.Bytes.{Bytes, eqBytes}
 use Rattle.runs.specs.Members.{has, place, fresh, Distinct}
 use Rattle.tables.specs.Committed.{Delegation, Revocation, Committed, delegationKeys, revocationKeys, keysOf, keysIn, keys}
-use Rattle.runs.proofs.BoolLaws.{or, or-cases}
+use Rattle.runs.proofs.BoolLaws.{or, or-cases, or-either}
 use Rattle.runs.proofs.ByteLaws.{eq-true}
-use Rattle.runs.proofs.MemberLaws.{mem-has, has-mem, has-not, has-append, distinct-snoc, distinct-head, distinct-tail, within-le, false-true}
+use Rattle.runs.proofs.MemberLaws.{mem-has, has-mem, has-not, has-append, distinct-snoc, distinct-head, distinct-tail, within-le}
 use Rattle.runs.proofs.FreshLaws.{fresh-has, fresh-distinct, all-has, all-distinct}
 
 -- ## Lists by digest
 map-append : {A : Type 0} (f : A → Bytes) (l m : List A) → map f (l ++ m) ≡ map f l ++ map f m
 map-append f [] m = refl
 map-append f (x ∷ l) m = ap (λ (k : List Bytes). f x ∷ k) (map-append f l m)
-
-pub map-long : {A : Type 0} (f : A → Bytes) (l : List A) → length (map f l) ≡ length l
-map-long f [] = refl
-map-long f (x ∷ l) = ap suc (map-long f l)
-
-true-or : (a b : Bool) → (a ≡ true) ⊎ (b ≡ true) → or a b ≡ true
-true-or true b h = refl
-true-or false b (inl e) = absurd (false-true e)
-true-or false b (inr e) = e
 
 module _ {A : Type 0} (f : A → Bytes) where
   digest-held : {l : List A} {a : A} → List·Memᴰ a l → has (map f l) (f a) ≡ true
@@ -37,7 +28,7 @@ module _ {A : Type 0} (f : A → Bytes) where
   pub found : (l : List A) (d : Bytes) (z : A) → has (map f l) d ≡ true
       → List·Memᴰ (getD l (place (map f l) d) z) l × (f (getD l (place (map f l) d) z) ≡ d)
   unfolding has place
-  found [] d z h = absurd (false-true h)
+  found [] d z h = absurd (false≢true h)
   found (x ∷ l) d z h = go (eqBytes (f x) d) refl h (found l d z)
     where
       go : (t : Bool) → eqBytes (f x) d ≡ t → cond t true (has (map f l) d) ≡ true
@@ -55,7 +46,7 @@ module _ {A : Type 0} (f : A → Bytes) where
   ]
     where
       clash : {c : A} → f x ≡ f c → List·Memᴰ c l → ⊥
-      clash {c} q k = false-true (sym (distinct-head (f x) (map f l) d) ∙ rw q (digest-held k))
+      clash {c} q k = false≢true (sym (distinct-head (f x) (map f l) d) ∙ rw q (digest-held k))
 
   -- one more
   pub more-distinct : (l : List A) (g : A) → Distinct (map f l) → has (map f l) (f g) ≡ false → Distinct (map f (l ++ (g ∷ [])))
@@ -66,8 +57,8 @@ module _ {A : Type 0} (f : A → Bytes) where
       → length l < length m
   fewer l m g d h w n =
       let p = within-le (map f (l ++ (g ∷ []))) (map f m) (more-distinct l g d h) (λ k e. inside k (Memᴰ·of-map f (l ++ (g ∷ [])) (has-mem k (map f (l ++ (g ∷ []))) e))) in
-      let a = map-long f (l ++ (g ∷ [])) in
-      let b = map-long f m in
+      let a = length-map (l ++ (g ∷ [])) f in
+      let b = length-map m f in
       let c = length-append l (g ∷ []) in
       omega arith
     where
@@ -82,7 +73,7 @@ module _ {A : Type 0} (f : A → List Bytes) where
   keys-has : (l : List A) {a : A} → List·Memᴰ a l → (k : Bytes) → has (f a) k ≡ true → has (keysOf f l) k ≡ true
   unfolding keysOf
   keys-has [] m k h = absurd (List·Memᴰ·not-nil m)
-  keys-has (x ∷ l) m k h = has-append (f x) (keysOf f l) k ∙ true-or (has (f x) k) (has (keysOf f l) k) (elim (List·Memᴰ·cases-cons m) [
+  keys-has (x ∷ l) m k h = has-append (f x) (keysOf f l) k ∙ or-either (has (f x) k) (has (keysOf f l) k) (elim (List·Memᴰ·cases-cons m) [
     | inl p ↦ inl (rw (← p) h)
     | inr n ↦ inr (keys-has l n k h)
   ])
@@ -94,7 +85,7 @@ module _ {A : Type 0} (f : A → List Bytes) where
 
   has-keys : (l : List A) (k : Bytes) → has (keysOf f l) k ≡ true → KeyOf l k
   unfolding keysOf has
-  has-keys [] k h = absurd (false-true h)
+  has-keys [] k h = absurd (false≢true h)
   has-keys (x ∷ l) k h = elim (or-cases (has (f x) k) (has (keysOf f l) k) (sym (has-append (f x) (keysOf f l) k) ∙ h)) [
     | inl e ↦ record { one = x; held = List·Memᴰ·head refl; has-key = e }
     | inr e ↦ let r = has-keys l k e in record { one = r .one; held = List·Memᴰ·tail (r .held); has-key = r .has-key }
@@ -112,13 +103,13 @@ pub del-key : (c : Committed) {g : Delegation} → List·Memᴰ g (c .delegation
 unfolding keysIn
 del-key c m k h =
     has-append (keysOf delegationKeys (c .delegations)) (keysOf revocationKeys (c .revocations)) k
-    ∙ true-or (has (keysOf delegationKeys (c .delegations)) k) (has (keysOf revocationKeys (c .revocations)) k) (inl (keys-has delegationKeys (c .delegations) m k h))
+    ∙ or-either (has (keysOf delegationKeys (c .delegations)) k) (has (keysOf revocationKeys (c .revocations)) k) (inl (keys-has delegationKeys (c .delegations) m k h))
 
 pub rev-key : (c : Committed) {r : Revocation} → List·Memᴰ r (c .revocations) → (k : Bytes) → has (revocationKeys r) k ≡ true → HasKey c k
 unfolding keysIn
 rev-key c m k h =
     has-append (keysOf delegationKeys (c .delegations)) (keysOf revocationKeys (c .revocations)) k
-    ∙ true-or (has (keysOf delegationKeys (c .delegations)) k) (has (keysOf revocationKeys (c .revocations)) k) (inr (keys-has revocationKeys (c .revocations) m k h))
+    ∙ or-either (has (keysOf delegationKeys (c .delegations)) k) (has (keysOf revocationKeys (c .revocations)) k) (inr (keys-has revocationKeys (c .revocations) m k h))
 
 pub key-of : (c : Committed) (k : Bytes) → HasKey c k → KeyOf delegationKeys (c .delegations) k ⊎ KeyOf revocationKeys (c .revocations) k
 unfolding keysIn
@@ -149,7 +140,7 @@ keys-fit c e ks w f =
 pub keys-few : (c e : Committed) (ks : List Bytes) → ((k : Bytes) → HasKey e k → HasKey c k ⊎ (has ks k ≡ true))
     → length (keys e) ≤ length (keys c) + length (fresh (keys c) ks)
 keys-few c e ks f =
-    let p = within-le (keys e) (keys c ++ fresh (keys c) ks) (all-distinct (keysIn e)) (λ k h. fresh-has (keys c) ks k ∙ true-or (has (keys c) k) (has ks k) (inside k (f k (sym (all-has (keysIn e) k) ∙ h)))) in
+    let p = within-le (keys e) (keys c ++ fresh (keys c) ks) (all-distinct (keysIn e)) (λ k h. fresh-has (keys c) ks k ∙ or-either (has (keys c) k) (has ks k) (inside k (f k (sym (all-has (keysIn e) k) ∙ h)))) in
     let q = length-append (keys c) (fresh (keys c) ks) in
     omega arith
   where

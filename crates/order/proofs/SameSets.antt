@@ -8,7 +8,7 @@ use mathlib.Core.Logic.{inl, inr, _↔_}
 use mathlib.Core.Option.{Option}
 use mathlib.Core.List.{List, [], _∷_, _++_, map, List·Memᴰ, Memᴰ·map, Memᴰ·of-map}
 use native.Mathlib.Omega.{arith}
-use lib.ListN.{length, getD}
+use lib.ListN.{length, getD, length-map}
 use Rattle.rules.specs.Rules.{Admin, Nobody, D1, Standing, Closure, Live, ConveyedIs, StandingIs}
 use Rattle.rules.specs.OneClosure.{ListedIn, RestsOnClosure}
 use Rattle.rules.proofs.Derivations.Monotone.{mono}
@@ -36,7 +36,7 @@ use Rattle.answers.proofs.OneClosure.{demand-3}
 use Rattle.keyline_memory.specs.State.{heldIn}
 use Rattle.keyline_memory.specs.declared.state.State.{State}
 use Rattle.order.specs.AnyOrder.{Certificate, delegation, revocation, answerTo, heldAfter, heldAfterAll, noneRefused, Among, Came, started, delegated, revoked, SameHeld, SameSets}
-use Rattle.order.proofs.Inserting.{found, one-each, HasKey, del-key, rev-key, key-of, map-long}
+use Rattle.order.proofs.Inserting.{found, one-each, HasKey, del-key, rev-key, key-of}
 use Rattle.order.proofs.Entries.{Built}
 use Rattle.order.proofs.AnyOrder.{empty, after, any-order}
 
@@ -62,13 +62,13 @@ module _ {A : Type 0} (f : A → Bytes) (z : A) (l m : List A) (there : (a : A) 
 
   module _ (dl : Distinct (map f l)) (dm : Distinct (map f m)) where
     same-count : length l ≡ length m
-    same-count = sym (map-long f l) ∙ (same-long (map f l) (map f m) dl dm same-has ∙ map-long f m)
+    same-count = sym (length-map l f) ∙ (same-long (map f l) (map f m) dl dm same-has ∙ length-map m f)
 
     same-with : (d : Bytes) → getD l (place (map f l) d) z ≡ getD m (place (map f m) d) z
     same-with d = go (has (map f l) d) refl
       where
         past : (k : List A) → has (map f k) d ≡ false → getD k (place (map f k) d) z ≡ z
-        past k h = rw (has-not (map f k) d h, map-long f k) (end k)
+        past k h = rw (has-not (map f k) d h, length-map k f) (end k)
           where
             end : (k : List A) → getD k (length k) z ≡ z
             end [] = refl

@@ -2,7 +2,7 @@
 -- ascending lists of the same things are one.
 use Prim.Native.Nat.{ℕ, _<_}
 use mathlib.Core.Path.{_≡_, refl, sym, ap, _∙_, subst}
-use mathlib.Core.Bool.{Bool, true, false, cond}
+use mathlib.Core.Bool.{Bool, true, false, cond, false≢true}
 use mathlib.Core.Logic.{_⊎_, inl, inr}
 use mathlib.Core.List.{List, [], _∷_, _++_, List·Memᴰ, List·Memᴰ·cases-cons, List·Memᴰ·not-nil}
 use native.Mathlib.Omega.{arith}
@@ -15,7 +15,7 @@ use Rattle.runs.specs.Members.{has, SameRuns}
 use Rattle.runs.specs.Sorted.{inserted, sortedInto, sorted}
 use Rattle.runs.proofs.BoolLaws.{or, or-cases}
 use Rattle.runs.proofs.ByteLaws.{eq-true}
-use Rattle.runs.proofs.MemberLaws.{mem-has, has-mem, false-true}
+use Rattle.runs.proofs.MemberLaws.{mem-has, has-mem}
 
 -- ---- the order
 step : ℕ → ℕ → Bool → Bool
@@ -40,11 +40,11 @@ step-same a b t h e = rw (le-ltb a b (omega arith), eq-eqb a b h, e)
 
 pub lt-trans : (x y z : Bytes) → Less x y → Less y z → Less x z
 unfolding ltBytes step
-lt-trans [] [] z p q = absurd (false-true p)
-lt-trans [] (b ∷ y) [] p q = absurd (false-true q)
+lt-trans [] [] z p q = absurd (false≢true p)
+lt-trans [] (b ∷ y) [] p q = absurd (false≢true q)
 lt-trans [] (b ∷ y) (c ∷ z) p q = refl
-lt-trans (a ∷ x) [] z p q = absurd (false-true p)
-lt-trans (a ∷ x) (b ∷ y) [] p q = absurd (false-true q)
+lt-trans (a ∷ x) [] z p q = absurd (false≢true p)
+lt-trans (a ∷ x) (b ∷ y) [] p q = absurd (false≢true q)
 lt-trans (a ∷ x) (b ∷ y) (c ∷ z) p q =
     elim (step-cases a b (ltBytes x y) p) [
       | inl h ↦ elim (step-cases b c (ltBytes y z) q) [ inl k ↦ step-below a c (ltBytes x z) (omega arith) | inr k ↦ let e = k .0 in step-below a c (ltBytes x z) (omega arith) ]
@@ -58,7 +58,7 @@ lt-trans (a ∷ x) (b ∷ y) (c ∷ z) p q =
 
 pub lt-irrefl : (x : Bytes) → ¬ Less x x
 unfolding ltBytes step
-lt-irrefl [] p = false-true p
+lt-irrefl [] p = false≢true p
 lt-irrefl (a ∷ x) p = elim (step-cases a a (ltBytes x x) p) [ inl h ↦ omega arith | inr h ↦ lt-irrefl x (h .1) ]
 
 pub lt-not-both : (x y : Bytes) → Less x y → ¬ Less y x
@@ -67,14 +67,14 @@ lt-not-both x y p q = lt-irrefl x (lt-trans x y x p q)
 -- two runs, neither below nor equal
 pub lt-total : (x y : Bytes) → ltBytes x y ≡ false → eqBytes y x ≡ false → Less y x
 unfolding ltBytes eqBytes step
-lt-total [] [] p q = absurd (false-true (sym q))
-lt-total [] (b ∷ y) p q = absurd (false-true (sym p))
+lt-total [] [] p q = absurd (false≢true (sym q))
+lt-total [] (b ∷ y) p q = absurd (false≢true (sym p))
 lt-total (a ∷ x) [] p q = refl
 lt-total (a ∷ x) (b ∷ y) p q = go (ltb a b) (eqb b a) refl refl p q (lt-total x y)
   where
     go : (u v : Bool) → ltb a b ≡ u → eqb b a ≡ v → cond u true (cond (eqb a b) (ltBytes x y) false) ≡ false → cond v (eqBytes y x) false ≡ false
         → (ltBytes x y ≡ false → eqBytes y x ≡ false → Less y x) → step b a (ltBytes y x) ≡ true
-    go true v h k p q f = absurd (false-true (sym p))
+    go true v h k p q f = absurd (false≢true (sym p))
     go false true h k p q f =
         let e : b ≡ a = eqb-true b a k in
         let r : ltBytes x y ≡ false = rw (eq-eqb a b (sym e)) at p in

@@ -1,5 +1,5 @@
 -- Laws of single runs: equality and order as tests, byte by byte; the run at a place. Rests on specs/Bytes.
-use Prim.Native.Nat.{ℕ, zero, suc, _+_, _*_, _≤_, _<_, zero-le, suc-le-suc}
+use Prim.Native.Nat.{ℕ, zero, suc, _+_, _-_, _*_, _≤_, _<_, zero-le, suc-le-suc}
 use mathlib.Core.Path.{_≡_, refl, sym, ap, _∙_}
 use mathlib.Core.Bool.{Bool, true, false, cond}
 use mathlib.Core.List.{List, [], _∷_, _++_}
@@ -76,6 +76,11 @@ unfolding runAt
 byte-run b i j h = getD-take runLength (drop (runLength * i) b) j 0 h ∙ getD-drop (runLength * i) b j 0
 
 -- a run by itself
+-- a run, as a part of its table
+pub run-part : (t : Bytes) (i : ℕ) → take (runLength * i + runLength - runLength * i) (drop (runLength * i) t) ≡ runAt t i
+unfolding runAt
+run-part t i = let e : runLength * i + runLength - runLength * i ≡ runLength = omega arith in rw e
+
 pub run-whole : (b : Bytes) → length b ≡ runLength → runAt b 0 ≡ b
 unfolding runAt
 run-whole b h = take-all runLength b (omega arith)

@@ -1,7 +1,7 @@
 -- Which runs stand in a list, and where; lists with no run twice, and how many such a list can have. Rests on BoolLaws and ByteLaws.
 use Prim.Native.Nat.{ℕ, zero, suc, _+_, _≤_, _<_, zero-le, suc-le-suc}
 use mathlib.Core.Path.{_≡_, refl, sym, ap, _∙_}
-use mathlib.Core.Bool.{Bool, true, false, cond}
+use mathlib.Core.Bool.{Bool, true, false, cond, false≢true}
 use mathlib.Core.Logic.{inl, inr}
 use mathlib.Core.List.{List, [], _∷_, _++_, List·Memᴰ, List·Memᴰ·head, List·Memᴰ·tail, List·Memᴰ·cases-cons, List·Memᴰ·not-nil}
 use native.Mathlib.Omega.{arith}
@@ -192,9 +192,6 @@ within-le (x ∷ l) m d f =
 pub same-long : (l m : List Bytes) → Distinct l → Distinct m → SameRuns l m → length l ≡ length m
 same-long l m d e f = le-antisymm (within-le l m d (λ k h. sym (f k) ∙ h)) (within-le m l e (λ k h. f k ∙ h))
 
-pub false-true : false ≡ true → ⊥
-false-true e = let z : _≡_ {A = ℕ} 0 1 = cc in omega arith
-
 -- ---- as membership
 pub mem-has : (x : Bytes) (l : List Bytes) → List·Memᴰ x l → has l x ≡ true
 unfolding has
@@ -210,7 +207,7 @@ mem-has x (y ∷ l) m = elim (List·Memᴰ·cases-cons m) [
 
 pub has-mem : (x : Bytes) (l : List Bytes) → has l x ≡ true → List·Memᴰ x l
 unfolding has
-has-mem x [] h = absurd (false-true h)
+has-mem x [] h = absurd (false≢true h)
 has-mem x (y ∷ l) h = go (eqBytes y x) refl h (has-mem x l)
   where
     go : (t : Bool) → eqBytes y x ≡ t → cond t true (has l x) ≡ true → (has l x ≡ true → List·Memᴰ x l) → List·Memᴰ x (y ∷ l)

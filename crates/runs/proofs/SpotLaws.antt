@@ -1,7 +1,7 @@
 -- Where a run stands in an ascending list, or would stand. Rests on AscentLaws.
 use Prim.Native.Nat.{ℕ, zero, suc, _≤_, _<_, zero-le, suc-le-suc}
 use mathlib.Core.Path.{_≡_, refl, sym, ap, _∙_}
-use mathlib.Core.Bool.{Bool, true, false, cond}
+use mathlib.Core.Bool.{Bool, true, false, cond, false≢true}
 use mathlib.Core.List.{List, [], _∷_, _++_}
 use native.Mathlib.Omega.{arith}
 use native.Mathlib.Nat.{le-of-suc-le-suc, not-suc-le-zero}
@@ -11,7 +11,7 @@ use Rattle.runs.specs.Bytes.{Bytes, Less, eqBytes, ltBytes}
 use Rattle.runs.specs.Members.{has}
 use Rattle.runs.specs.Sorted.{inserted, sortedInto, sorted, spot}
 use Rattle.runs.proofs.ByteLaws.{eq-true}
-use Rattle.runs.proofs.MemberLaws.{false-true, has-mem, has-get}
+use Rattle.runs.proofs.MemberLaws.{has-mem, has-get}
 use Rattle.runs.proofs.AscentLaws.{lt-trans, lt-not-both, lt-total, lt-irrefl}
 
 pub spot-le : (x : Bytes) (l : List Bytes) → spot x l ≤ length l
@@ -47,7 +47,7 @@ spot-above x (y ∷ l) (before b t) (suc i) h e =
 -- a run that the list has stands at its spot
 pub spot-held : (x : Bytes) (l : List Bytes) → Ascending Less l → has l x ≡ true → (spot x l < length l) × (getD l (spot x l) [] ≡ x)
 unfolding spot has
-spot-held x [] done h = absurd (false-true h)
+spot-held x [] done h = absurd (false≢true h)
 spot-held x (y ∷ l) (before b t) h = go (ltBytes y x) (eqBytes y x) refl refl h (spot-held x l t)
   where
     go : (u v : Bool) → ltBytes y x ≡ u → eqBytes y x ≡ v → cond v true (has l x) ≡ true → (has l x ≡ true → (spot x l < length l) × (getD l (spot x l) [] ≡ x))
@@ -55,7 +55,7 @@ spot-held x (y ∷ l) (before b t) h = go (ltBytes y x) (eqBytes y x) refl refl 
     go true true p q e f = let s = eq-true y x q in absurd (lt-irrefl x (rw s at p))
     go true false p q e f = let r = f e in (suc-le-suc (r .0), r .1)
     go false true p q e f = (suc-le-suc zero-le, eq-true y x q)
-    go false false p q e f = absurd (false-true (sym p ∙ b x (has-mem x l e)))
+    go false false p q e f = absurd (false≢true (sym p ∙ b x (has-mem x l e)))
 
 -- a run that it has not goes in there
 pub inserted-spot : (x : Bytes) (l : List Bytes) → has l x ≡ false → inserted x l ≡ take (spot x l) l ++ (x ∷ drop (spot x l) l)
@@ -67,9 +67,9 @@ inserted-spot x (y ∷ l) h = go (ltBytes x y) (eqBytes y x) (ltBytes y x) refl 
         → cond u (x ∷ y ∷ l) (cond v (y ∷ l) (y ∷ inserted x l)) ≡ take (cond w (suc (spot x l)) 0) (y ∷ l) ++ (x ∷ drop (cond w (suc (spot x l)) 0) (y ∷ l))
     go true v true p q r e f = absurd (lt-not-both x y p r)
     go true v false p q r e f = refl
-    go false true w p q r e f = absurd (false-true (sym e))
+    go false true w p q r e f = absurd (false≢true (sym e))
     go false false true p q r e f = ap (λ (m : List Bytes). y ∷ m) (f e)
-    go false false false p q r e f = absurd (false-true (sym r ∙ lt-total x y p q))
+    go false false false p q r e f = absurd (false≢true (sym r ∙ lt-total x y p q))
 
 -- one run more
 into-snoc : (m l : List Bytes) (x : Bytes) → sortedInto m (l ++ (x ∷ [])) ≡ inserted x (sortedInto m l)

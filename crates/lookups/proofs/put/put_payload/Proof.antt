@@ -5,7 +5,8 @@ use native.Mathlib.Omega.{arith}
 use lib.ListN.{length}
 use denote.Ref.{now}
 use Rattle.runs.specs.Bytes.{Bytes, runAt}
-use Rattle.lookups.proofs.LookLaws.{run-part, cited-part, cited-le, payload-put}
+use Rattle.runs.proofs.ByteLaws.{run-part}
+use Rattle.lookups.proofs.LookLaws.{cited-part, cited-le, payload-put}
 use borrow.Author.Needs.{needs}
 use Rattle.lookups.proofs.put.put_payload.Statement.{statement}
 use Rattle.lookups.proofs.put.put_payload.Tie as tie

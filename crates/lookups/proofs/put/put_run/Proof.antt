@@ -9,9 +9,8 @@ use borrow.Rule.Slice.PartMut.{putMid}
 use Rattle.keyline.specs.Bytes.{front}
 use Rattle.keyline.proofs.Fronts.{front-none}
 use Rattle.runs.specs.Bytes.{Bytes, runLength, runAt}
-use Rattle.runs.proofs.ByteLaws.{length-run}
+use Rattle.runs.proofs.ByteLaws.{length-run, run-part}
 use Rattle.runs.proofs.ListLaws.{front-mid}
-use Rattle.lookups.proofs.LookLaws.{run-part}
 use borrow.Author.Needs.{needs}
 use Rattle.lookups.proofs.put.put_run.Statement.{statement}
 use Rattle.lookups.proofs.put.put_run.Tie as tie

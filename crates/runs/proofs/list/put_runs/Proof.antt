@@ -12,15 +12,11 @@ use Rattle.keyline.specs.Bytes.{front}
 use Rattle.keyline.proofs.Fronts.{front-none, length-front}
 use Rattle.runs.specs.Bytes.{Bytes, runLength, runAt, joined}
 use Rattle.runs.specs.Chosen.{Listable}
-use Rattle.runs.proofs.ByteLaws.{length-run}
+use Rattle.runs.proofs.ByteLaws.{length-run, run-part}
 use Rattle.runs.proofs.PartLaws.{map-at}
 use Rattle.runs.proofs.ListLaws.{front-mid, joined-none, joined-snoc, joined-long, map-more}
 use Rattle.runs.proofs.list.put_runs.Statement.{statement}
 use Rattle.runs.proofs.list.put_runs.Tie as tie
-
-part-run : (t : Bytes) (w : ℕ) → take (runLength * w + runLength - runLength * w) (drop (runLength * w) t) ≡ runAt t w
-unfolding runAt
-part-run t w = let e : runLength * w + runLength - runLength * w ≡ runLength = omega arith in rw e
 
 module _ (t ps : Bytes) (k : ℕ) (o : Bytes) (r : Listable t ps k o) where
   first-long : (j : ℕ) → j ≤ k → length (joined (map (runAt t) (take j ps))) ≡ runLength * j
@@ -110,7 +106,7 @@ loop-again c =
     let w = c .before .before .before .before .before .wide .result in
     let h = c .before .before .before .before .before .before .before .loop-test .taken in
     let r = s .pre .room in
-    let y : c .before .before .put-item .last .0 ≡ runAt t w = c .before .before .put-item .ensures ∙ part-run t w in
+    let y : c .before .before .put-item .last .0 ≡ runAt t w = c .before .before .put-item .ensures ∙ run-part t w in
     let e = one-more t ps (s .args .k) o (s .pre) (l .out) (c .before .before .put-item .last .0) w (l .j) (runLength * l .j + runLength - runLength * l .j) h (c .before .before .before .before .before .wide .ensures) (omega arith) y (l .inv .2) in
     let f = first-long t ps (s .args .k) o (s .pre) (l .j + 1) (omega arith) in
     (omega arith, ap (λ (b : Bytes). length b) e ∙ length-front (joined (map (runAt t) (take (l .j + 1) ps))) o (omega arith), e)
