@@ -27,7 +27,7 @@ use Rattle.answers.specs.Graph.{graph, store, ByDigest, RevByDigest}
 use Rattle.answers.specs.Facts.{FactsOf}
 use Rattle.answers.specs.Answers.{ClosureIs}
 use Rattle.answers.proofs.Places.{delegationOf, table, tabulate-in, tabulate-out, at-target, target-at}
-use Rattle.answers.proofs.Asking.{not-subject}
+use Rattle.answers.proofs.OverBytes.{not-subject}
 use Rattle.answers.proofs.Members.{ascending-pairs}
 
 -- ## Certificates at marked places

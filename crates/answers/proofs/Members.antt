@@ -31,7 +31,7 @@ use Rattle.coverage.specs.declared.Facts.{Facts}
 use Rattle.answers.specs.Graph.{graph}
 use Rattle.answers.specs.Facts.{FactsOf}
 use Rattle.answers.proofs.Places.{InUse, keyAt, table}
-use Rattle.answers.proofs.Asking.{effective-held, effective-no-subject, audience-held, bytes-caps}
+use Rattle.answers.proofs.OverBytes.{effective-held, effective-no-subject, audience-held, bytes-caps}
 
 -- ## Lists of pairs
 pub ascending-pairs : {A B C : Type 0} {L : B → B → Type 0} (w : A → C) (π : C → B) (l : List A) → Ascending L (map (λ a. π (w a)) l)

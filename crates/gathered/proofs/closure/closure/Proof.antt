@@ -12,7 +12,7 @@ use Rattle.answers.specs.Answers as says
 use Rattle.answers.specs.Answers.{ClosureAnswer}
 use Rattle.answers.proofs.Closures.{no-closure}
 use Rattle.answers.proofs.Seeking.{key-refused, key-unheld, key-at}
-use Rattle.answers.proofs.Listing.{closure-answer}
+use Rattle.answers.proofs.ClosureAnswered.{closure-answer}
 use borrow.Author.Needs.{needs}
 use Rattle.gathered.proofs.closure.closure.Statement.{statement}
 use Rattle.gathered.proofs.closure.closure.Tie as tie

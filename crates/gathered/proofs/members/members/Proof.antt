@@ -12,7 +12,7 @@ use Rattle.answers.specs.Answers.{MembersAnswer}
 use Rattle.answers.proofs.Members.{no-members}
 use Rattle.answers.proofs.Seeking.{key-refused, key-unheld, key-at}
 use Rattle.answers.proofs.Counting.{size-le}
-use Rattle.answers.proofs.Membering.{listable, valued, keys-small, powers-small, members-answered}
+use Rattle.answers.proofs.MembersAnswered.{listable, valued, keys-small, powers-small, members-answered}
 use borrow.Author.Needs.{needs}
 use Rattle.gathered.proofs.members.members.Statement.{statement}
 use Rattle.gathered.proofs.members.members.Tie as tie

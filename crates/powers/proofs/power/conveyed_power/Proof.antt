@@ -12,7 +12,7 @@ use Rattle.rules.proofs.Stores.Places.{conveyed-bytes}
 use Rattle.coverage.specs.Places.{places}
 use Rattle.answers.specs.Answers.{ConveyedPower}
 use Rattle.answers.specs.declared.answer.Powered.the-variants as powered
-use Rattle.answers.proofs.Telling.{conveyed-small, delegation-at-place, delegation-unheld, delegation-refused, not-held, is-held, with-is}
+use Rattle.answers.proofs.Cases.{conveyed-small, delegation-at-place, delegation-unheld, delegation-refused, not-held, is-held, with-is}
 use Rattle.powers.proofs.power.conveyed_power.Statement.{statement}
 use Rattle.powers.proofs.power.conveyed_power.Tie as tie
 

@@ -8,8 +8,8 @@ use lib.ListN.{getD}
 use Rattle.rules.specs.Rules.{Admin, EffectiveIs}
 use Rattle.store.specs.Store.{committed}
 use Rattle.answers.specs.Graph.{graph}
-use Rattle.answers.proofs.Asking.{effective-self, effective-no-subject, effective-no-audience, effective-held}
-use Rattle.answers.proofs.Telling.{answer-small, pair-refused, pair-same, pair-unheld, pair-at, at-pair}
+use Rattle.answers.proofs.OverBytes.{effective-self, effective-no-subject, effective-no-audience, effective-held}
+use Rattle.answers.proofs.Cases.{answer-small, pair-refused, pair-same, pair-unheld, pair-at, at-pair}
 use Rattle.powers.proofs.power.effective_power.Statement.{statement}
 use Rattle.powers.proofs.power.effective_power.Tie as tie
 

@@ -7,8 +7,8 @@ use denote.Ref.{now}
 use Rattle.rules.specs.Rules.{Admin, PositiveIs}
 use Rattle.store.specs.Store.{committed}
 use Rattle.answers.specs.Graph.{graph}
-use Rattle.answers.proofs.Asking.{positive-self, positive-no-subject, positive-no-audience, positive-held}
-use Rattle.answers.proofs.Telling.{answer-small, pair-refused, pair-same, pair-unheld, pair-at, at-pair}
+use Rattle.answers.proofs.OverBytes.{positive-self, positive-no-subject, positive-no-audience, positive-held}
+use Rattle.answers.proofs.Cases.{answer-small, pair-refused, pair-same, pair-unheld, pair-at, at-pair}
 use Rattle.powers.proofs.power.positive_power.Statement.{statement}
 use Rattle.powers.proofs.power.positive_power.Tie as tie
 

@@ -8,7 +8,7 @@ use Rattle.answers.proofs.Places.{table}
 use Rattle.rules.proofs.Stores.Places.{standing-bytes}
 use Rattle.answers.specs.Answers.{IsLive}
 use Rattle.answers.specs.declared.answer.Liveness.the-variants as liveness
-use Rattle.answers.proofs.Telling.{lives, dies-revoked, dies-unsupported, delegation-at-place, delegation-unheld, delegation-refused, not-held, is-held, with-is}
+use Rattle.answers.proofs.Cases.{lives, dies-revoked, dies-unsupported, delegation-at-place, delegation-unheld, delegation-refused, not-held, is-held, with-is}
 use Rattle.powers.proofs.standing.is_live.Statement.{statement}
 use Rattle.powers.proofs.standing.is_live.Tie as tie
 

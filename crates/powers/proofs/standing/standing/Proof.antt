@@ -10,7 +10,7 @@ use Rattle.rules.specs.Rules.{StandingIs, live, revoked, unsupported}
 use Rattle.rules.proofs.Stores.Places.{standing-bytes}
 use Rattle.answers.specs.Answers.{StandingAnswer}
 use Rattle.answers.specs.declared.answer.Stood.the-variants as stood
-use Rattle.answers.proofs.Telling.{delegation-at-place, delegation-unheld, delegation-refused, not-held, is-held, with-is}
+use Rattle.answers.proofs.Cases.{delegation-at-place, delegation-unheld, delegation-refused, not-held, is-held, with-is}
 use Rattle.powers.proofs.standing.standing.Statement.{statement}
 use Rattle.powers.proofs.standing.standing.Tie as tie
 

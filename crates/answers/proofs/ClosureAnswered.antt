@@ -1,4 +1,4 @@
--- From chosen places to the statement of a call that lists: the closure (`closure-answer`) and, in Membering, the members.
+-- From chosen places to the statement of a call that lists: the closure (`closure-answer`) and, in MembersAnswered, the members.
 use Prim.Native.Nat.{ℕ, _+_, _*_, _<_}
 use mathlib.Core.Path.{_≡_, refl, sym, _∙_, ap, subst}
 use mathlib.Core.Bool.{Bool, true, false, cond}
