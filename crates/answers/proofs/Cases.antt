@@ -1,17 +1,15 @@
 -- From what was sought and what the evaluation said of it to the statement of a call, case by case.
 use Prim.Native.Nat.{ℕ, zero, suc, min, _≤_, _<_}
 use mathlib.Core.Path.{_≡_, refl, sym, _∙_, ap, subst}
-use mathlib.Core.Bool.{Bool, true, false}
-use mathlib.Core.List.{List, []}
+use mathlib.Core.Bool.{false}
 use mathlib.Core.Option.{Option, none, some}
 use native.Mathlib.Omega.{arith}
 use lib.ListN.{length, getD}
 use Rattle.rules.specs.Rules as rules
-use Rattle.rules.specs.Rules.{Shape, Graph, Stands, Answer, absent, level, Admin, PositiveIs, EffectiveIs, ConveyedIs, Conveys, cap, plain, nothing, StandingIs, is-live, is-revoked, is-unsupported, Caps, Avoiding, Capped}
+use Rattle.rules.specs.Rules.{Shape, Graph, Stands, Answer, absent, level, Admin, ConveyedIs, Conveys, cap, plain, nothing, StandingIs, is-live, is-revoked, is-unsupported, Avoiding}
 use Rattle.rules.specs.Rows.{levelOf}
 use Rattle.rules.proofs.Derivations.Monotone.{stands-top}
 use Rattle.rules.proofs.Evaluation.Caps.{capped-below}
-use Rattle.rules.proofs.Stores.Places.{live-bytes, standing-bytes, conveyed-bytes}
 use Rattle.keyline.specs.Limits.{delegationLimit, keyLength, digestLength}
 use Rattle.keyline.specs.Power.{levelCount}
 use Rattle.keyline.specs.declared.power.Power.the-variants as power
@@ -28,25 +26,18 @@ use Rattle.tables.specs.Committed.{noDelegation, delegationWith}
 use Rattle.tables.specs.Columns.{delegationAt}
 use Rattle.store.specs.Store.{committed, GoodStore}
 use Rattle.store.specs.declared.Store.{Store}
-use Rattle.store.proofs.ViewLaws.{delegation-digests, delegation-at, delegations-long}
-use Rattle.coverage.specs.Places.{places}
-use Rattle.coverage.specs.declared.Facts.{Facts}
-use Rattle.answers.specs.Graph.{graph}
-use Rattle.answers.specs.Facts.{FactsOf}
+use Rattle.store.proofs.ViewLaws.{delegation-digests, delegation-at}
 use Rattle.answers.specs.Answers as says
-use Rattle.answers.specs.Answers.{LevelIs, PowerAnswer, ConveyedPower, IsLive, StandingAnswer, StandingSays, Held, Absent}
+use Rattle.answers.specs.Answers.{LevelIs, PowerAnswer, Held, Absent}
 use Rattle.answers.specs.Sought as found
-use Rattle.answers.specs.Sought.{PairOf, KeyOf, DelegationOf}
+use Rattle.answers.specs.Sought.{PairOf, DelegationOf}
 use Rattle.answers.specs.declared.answer.Powered.{Powered}
 use Rattle.answers.specs.declared.answer.Powered.the-variants as powered
-use Rattle.answers.specs.declared.answer.Liveness.the-variants as liveness
-use Rattle.answers.specs.declared.answer.Stood.{Stood}
-use Rattle.answers.specs.declared.answer.Stood.the-variants as stood
 use Rattle.answers.specs.declared.sought.Pair.{Pair}
 use Rattle.answers.specs.declared.sought.Pair.the-variants as pair
 use Rattle.answers.specs.declared.sought.SoughtDelegation.{SoughtDelegation}
 use Rattle.answers.specs.declared.sought.SoughtDelegation.the-variants as delegation
-use Rattle.answers.proofs.Places.{table, delegationOf}
+use Rattle.answers.proofs.Places.{table}
 
 -- ## Bytes that say a level are at most 4
 level-small : (b : ℕ) {l : ℕ} → levelOf b ≡ some l → l ≤ Admin → b ≤ levelCount

@@ -1,12 +1,12 @@
 -- The closure of a subject: the marked places of the two tables, in ascending order of their digests, are the two lists that document 01
 -- defines (`closure-is`); over a key that is not held both are empty.
-use Prim.Native.Nat.{ℕ, _<_, _≤_}
+use Prim.Native.Nat.{ℕ, _<_}
 use mathlib.Core.Path.{_≡_, refl, sym, _∙_, ap, subst}
 use mathlib.Core.Bool.{Bool, true, false}
 use mathlib.Core.List.{List, [], _∷_, map, List·Memᴰ, List·Memᴰ·not-nil, Memᴰ·map, Memᴰ·of-map}
 use native.Mathlib.Omega.{arith}
-use lib.ListN.{length, getD}
-use Rattle.rules.specs.Rules.{Ascending, done, before, Lists, Node, Closure, ClosureRev, RevocationOf}
+use lib.ListN.{getD}
+use Rattle.rules.specs.Rules.{Ascending, done, Lists, Node, Closure, ClosureRev}
 use Rattle.rules.proofs.Derivations.Monotone.{stands-alone}
 use Rattle.rules.proofs.Stores.Places.{node-bytes}
 use Rattle.keyset.specs.Word.{bit}
@@ -16,14 +16,14 @@ use Rattle.runs.specs.Table.{runs, order, GoodRuns}
 use Rattle.runs.specs.Chosen.{picked, Marked}
 use Rattle.runs.proofs.TableLaws.{found-at}
 use Rattle.runs.proofs.ListLaws.{chosen-lists, picked-in, order-below}
-use Rattle.keyline.specs.Limits.{keyLimit, delegationLimit, revocationLimit}
+use Rattle.keyline.specs.Limits.{delegationLimit, revocationLimit}
 use Rattle.tables.specs.Committed.{Delegation, Revocation}
-use Rattle.tables.specs.Columns.{delegationAt, revocationAt}
+use Rattle.tables.specs.Columns.{revocationAt}
 use Rattle.store.specs.Store.{committed, GoodStore}
 use Rattle.store.specs.declared.Store.{Store}
 use Rattle.coverage.specs.Places.{places}
 use Rattle.coverage.specs.declared.Facts.{Facts}
-use Rattle.answers.specs.Graph.{graph, store, ByDigest, RevByDigest}
+use Rattle.answers.specs.Graph.{graph, store}
 use Rattle.answers.specs.Facts.{FactsOf}
 use Rattle.answers.specs.Answers.{ClosureIs}
 use Rattle.answers.proofs.Places.{delegationOf, table, tabulate-in, tabulate-out, at-target, target-at}

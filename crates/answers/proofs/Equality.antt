@@ -1,5 +1,4 @@
 -- Whether two keys, and two delegations, are the same is decided; so every committed set is finite in the sense of the rules.
-use Prim.Native.Nat.{ℕ}
 use mathlib.Core.Path.{_≡_, ap}
 use mathlib.Core.List.{List-discrete}
 use native.Mathlib.Decide.{ℕ-discrete}

@@ -1,23 +1,23 @@
 -- The members of a subject: the marked places of the key table, in ascending order of their keys, each with the level that its byte of the
 -- subject's effective row says, are the list that document 01 defines (`members-are`); over a key that is not held there is none.
-use Prim.Native.Nat.{ℕ, zero, suc, pred, _<_, _≤_}
+use Prim.Native.Nat.{ℕ, zero, suc, pred, _<_}
 use mathlib.Core.Path.{_≡_, refl, sym, _∙_, ap, subst}
-use mathlib.Core.Bool.{Bool, true, false, true≢false}
-use mathlib.Core.Logic.{_⊎_, inl, inr}
+use mathlib.Core.Bool.{Bool, true, false}
+use mathlib.Core.Logic.{inl, inr}
 use mathlib.Core.List.{List, [], _∷_, map, List·Memᴰ, List·Memᴰ·not-nil, Memᴰ·map, Memᴰ·of-map}
 use mathlib.Core.Option.{Option, none, some}
 use native.Mathlib.Omega.{arith}
-use lib.ListN.{length, getD}
+use lib.ListN.{getD}
 use Rattle.rules.specs.Rules.{Answer, absent, level, Greatest, Ascending, done, before, Lists, Effective, EffectiveIs, Caps, Member, MembersAre}
 use Rattle.rules.specs.Rows.{levelOf}
 use Rattle.rules.proofs.Derivations.Answers.{greatest-unique}
 use Rattle.rules.proofs.Derivations.Monotone.{stands-named}
 use Rattle.rules.proofs.Evaluation.LiveSet.{live-held}
 use Rattle.rules.proofs.Evaluation.Settled.{effective-at}
-use Rattle.rules.proofs.Stores.Places.{caps-bytes, pull, into, outof, seek-place}
+use Rattle.rules.proofs.Stores.Places.{caps-bytes}
 use Rattle.runs.specs.Bytes.{Bytes, Less, runAt}
 use Rattle.runs.specs.Members.{has, place}
-use Rattle.runs.specs.Table.{runs, order, GoodRuns}
+use Rattle.runs.specs.Table.{runs, order}
 use Rattle.runs.specs.Chosen.{picked, Marked}
 use Rattle.runs.proofs.MemberLaws.{has-within, getD-place}
 use Rattle.runs.proofs.TableLaws.{runs-long, runs-at, found-at}
@@ -30,7 +30,7 @@ use Rattle.coverage.specs.Places.{places}
 use Rattle.coverage.specs.declared.Facts.{Facts}
 use Rattle.answers.specs.Graph.{graph}
 use Rattle.answers.specs.Facts.{FactsOf}
-use Rattle.answers.proofs.Places.{InUse, keyAt, table}
+use Rattle.answers.proofs.Places.{table}
 use Rattle.answers.proofs.OverBytes.{effective-held, effective-no-subject, audience-held, bytes-caps}
 
 -- ## Lists of pairs

@@ -2,19 +2,16 @@
 -- Idea: the definitions' answers coincide (demand-3 of Rattle.rules), each call's statement settles its answer from them (Settled), and a
 -- delegation of the closure is the one that its digest names in both sets.
 use Prim.Native.Nat.{ℕ, suc}
-use mathlib.Core.Path.{_≡_, refl, sym, _∙_, ap, subst}
+use mathlib.Core.Path.{_≡_, refl, sym, _∙_, ap}
 use mathlib.Core.Bool.{Bool, true, false, cond}
-use mathlib.Core.Logic.{_⊎_, inl, inr, _↔_}
+use mathlib.Core.Logic.{inl, inr, _↔_}
 use lib.ListN.{length, getD}
-use mathlib.Core.List.{List, [], _∷_, map, List·Memᴰ, List·Memᴰ·head, List·Memᴰ·tail, List·Memᴰ·cases-cons, List·Memᴰ·not-nil, List-discrete}
-use native.Mathlib.Decide.{ℕ-discrete}
+use mathlib.Core.List.{List, [], _∷_, map, List·Memᴰ, List·Memᴰ·head, List·Memᴰ·tail, List·Memᴰ·cases-cons, List·Memᴰ·not-nil}
 use native.Mathlib.Omega.{arith}
-use Rattle.rules.specs.Rules.{Closure, Finite, Live, ConveyedIs, StandingIs, DelegationTo, RevocationOf}
-use Rattle.rules.specs.OneClosure.{ListedIn, RestsOnClosure}
+use Rattle.rules.specs.Rules.{Closure, Live, ConveyedIs, StandingIs, DelegationTo, RevocationOf}
+use Rattle.rules.specs.OneClosure.{RestsOnClosure}
 use Rattle.rules.proofs.Evaluation.Listing.{lists-same}
 use Rattle.rules.proofs.Stores.OneClosure as rules
-use Rattle.keyline.specs.Power.{rankOf}
-use Rattle.keyline.specs.declared.power.Power.{Power}
 use Rattle.runs.specs.Bytes.{Bytes, eqBytes}
 use Rattle.runs.specs.Members.{has, place}
 use Rattle.lists.specs.Lists.{lengthFirst, listAnswer, listBuffer, delegationsTo, revocationsOf, names, fromTo, Item}

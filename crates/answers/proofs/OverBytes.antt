@@ -1,19 +1,18 @@
 -- From an answer at places to the statement over bytes, for every key and digest that can be asked about: held ones by the tables (Places),
 -- and those that no table has by the rules' own answers.
-use Prim.Native.Nat.{ℕ, _<_, _≤_}
-use mathlib.Core.Path.{_≡_, refl, sym, _∙_, ap, subst}
+use Prim.Native.Nat.{ℕ, _<_}
+use mathlib.Core.Path.{_≡_, refl, sym, _∙_, subst}
 use mathlib.Core.Bool.{Bool, true, false, cond}
 use mathlib.Core.Logic.{_⊎_, inl, inr}
-use mathlib.Core.List.{List, [], _∷_, _++_, List·Memᴰ, List·Memᴰ·cases-cons, List·Memᴰ·not-nil}
+use mathlib.Core.List.{List, [], _∷_, List·Memᴰ, List·Memᴰ·cases-cons, List·Memᴰ·not-nil}
 use mathlib.Core.Option.{Option, none, some}
 use native.Mathlib.Omega.{arith}
-use lib.ListN.{length, getD}
-use Rattle.rules.specs.Rules.{Admin, Positive, PositiveIs, EffectiveIs, Caps, Answer, Live}
+use Rattle.rules.specs.Rules.{Admin, PositiveIs, EffectiveIs, Caps}
 use Rattle.rules.proofs.Derivations.Rows.{self-answer, no-subject, no-audience}
 use Rattle.rules.proofs.Evaluation.LiveSet.{live-held}
 use Rattle.rules.proofs.Stores.Places.{positive-bytes, effective-bytes, caps-bytes, pull, into, outof, seek-place}
 use Rattle.runs.specs.Bytes.{Bytes, eqBytes, runAt}
-use Rattle.runs.specs.Members.{has, place}
+use Rattle.runs.specs.Members.{has}
 use Rattle.runs.specs.Table.{runs}
 use Rattle.runs.proofs.BoolLaws.{or, or-left, or-right}
 use Rattle.runs.proofs.ByteLaws.{eq-refl}
@@ -25,7 +24,7 @@ use Rattle.coverage.specs.Places.{places}
 use Rattle.coverage.specs.declared.Facts.{Facts}
 use Rattle.answers.specs.Graph.{graph}
 use Rattle.answers.specs.Facts.{FactsOf}
-use Rattle.answers.proofs.Places.{InUse, keyAt, table}
+use Rattle.answers.proofs.Places.{table}
 
 -- ## Keys of held delegations
 key-in : (l : List Delegation) (d : Delegation) (k : Bytes) → List·Memᴰ d l → has (delegationKeys d) k ≡ true → has (keysOf delegationKeys l) k ≡ true

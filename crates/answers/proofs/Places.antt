@@ -1,29 +1,26 @@
 -- What is evaluated at places is what the definitions say over bytes: the instance of `Table` (Rattle.rules, Stores/Places) that the tables
 -- of a good store are.
-use Prim.Native.Nat.{ℕ, zero, suc, _+_, _*_, _≤_, _<_}
-use mathlib.Core.Path.{_≡_, refl, sym, _∙_, ap, subst}
-use mathlib.Core.Bool.{Bool, true, false, cond}
-use mathlib.Core.Logic.{_⊎_, inl, inr}
-use mathlib.Core.List.{List, [], _∷_, _++_, List·Memᴰ, List·Memᴰ·head, List·Memᴰ·tail, List·Memᴰ·cases-cons, List·Memᴰ·append-cases, List·Memᴰ·not-nil, List·Memᴰ·eq-of-singleton, Memᴰ·append-left, Memᴰ·append-right}
+use Prim.Native.Nat.{ℕ, zero, suc, _+_, _<_}
+use mathlib.Core.Path.{_≡_, refl, sym, _∙_, ap}
+use mathlib.Core.Logic.{inl, inr}
+use mathlib.Core.List.{List, [], _∷_, _++_, List·Memᴰ, List·Memᴰ·head, List·Memᴰ·append-cases, List·Memᴰ·not-nil, List·Memᴰ·eq-of-singleton, Memᴰ·append-left, Memᴰ·append-right}
 use native.Mathlib.Decide.{decLt}
 use native.Mathlib.Omega.{arith}
 use lib.ListN.{length, getD}
-use lib.Dec.{eqb}
-use Rattle.rules.specs.Rules.{RevokedBy, RevocationOf}
+use Rattle.rules.specs.Rules.{RevokedBy}
 use Rattle.rules.proofs.Stores.Places.{Table}
 use Rattle.rules.proofs.Stores.Finite.{mem-decided}
 use Rattle.keyline.specs.Limits.{keyLimit, delegationLimit}
-use Rattle.runs.specs.Bytes.{Bytes, runLength, runAt}
+use Rattle.runs.specs.Bytes.{Bytes, runAt}
 use Rattle.runs.specs.Members.{place}
-use Rattle.runs.specs.Table.{tabulate, runs, GoodRuns}
+use Rattle.runs.specs.Table.{tabulate, runs}
 use Rattle.runs.proofs.MemberLaws.{getD-place}
 use Rattle.runs.proofs.TableLaws.{runs-long, runs-at, found-at}
-use Rattle.tables.specs.Committed.{Delegation, Revocation, Committed}
-use Rattle.tables.specs.Columns.{delegationAt, revocationAt, powerOf}
+use Rattle.tables.specs.Committed.{Delegation, Revocation}
+use Rattle.tables.specs.Columns.{delegationAt, revocationAt}
 use Rattle.store.specs.Store.{committed, GoodStore}
 use Rattle.store.specs.declared.Store.{Store}
 use Rattle.tables.proofs.ContentLaws.{rank-power}
-use Rattle.coverage.specs.Arrays.{Any}
 use Rattle.coverage.specs.Places.{places, Names}
 use Rattle.coverage.specs.declared.Facts.{Facts}
 use Rattle.answers.specs.Graph.{graph, store}

@@ -1,14 +1,14 @@
 -- Two answers that satisfy one statement of a call coincide: the result and every lent byte.
 -- Idea: the cases of a statement exclude each other, and within one case the definitions settle the answer (Rattle.rules, Settled).
-use Prim.Native.Nat.{ℕ, _+_, _*_, _≤_, _<_}
+use Prim.Native.Nat.{ℕ}
 use mathlib.Core.Bool.{Bool, true, false}
 use mathlib.Core.Logic.{_↔_}
 use mathlib.Core.Path.{_≡_, refl, sym, _∙_, ap}
 use mathlib.Core.List.{List}
-use mathlib.Core.Option.{Option, none, some}
+use mathlib.Core.Option.{Option, none}
 use native.Mathlib.Omega.{arith}
 use lib.ListN.{length}
-use Rattle.rules.specs.Rules.{PositiveIs, EffectiveIs, ConveyedIs, MembersAre, StandingIs, Lists, Closure, ClosureRev}
+use Rattle.rules.specs.Rules.{ConveyedIs, MembersAre, StandingIs, Lists}
 use Rattle.rules.specs.Rules as rules
 use Rattle.rules.proofs.Derivations.Answers.{answer-unique}
 use Rattle.rules.proofs.Evaluation.Settled.{effective-settled, conveyed-settled, standing-settled, members-settled}
@@ -16,8 +16,6 @@ use Rattle.rules.proofs.Evaluation.Listing.{lists-same}
 use Rattle.runs.proofs.AscentLaws.{lt-not-both}
 use Rattle.keyline.specs.Power.{rankOf}
 use Rattle.keyline.proofs.Levels.{same-rank}
-use Rattle.keyline.specs.declared.power.Power.{Power}
-use Rattle.keyline.specs.declared.power.Power.the-variants.{Relay, Read, Edit, Admin}
 use Rattle.runs.specs.Bytes.{Bytes, Less}
 use Rattle.runs.specs.Members.{has}
 use Rattle.tables.specs.Committed.{Delegation, Revocation, Committed, delegationDigests, delegationWith}

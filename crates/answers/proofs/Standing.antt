@@ -4,7 +4,7 @@ use mathlib.Core.Path.{_≡_, sym, _∙_}
 use mathlib.Core.Bool.{false}
 use mathlib.Core.List.{[]}
 use native.Mathlib.Omega.{arith}
-use lib.ListN.{length, getD}
+use lib.ListN.{length}
 use Rattle.runs.specs.Bytes.{Bytes, runAt}
 use Rattle.runs.specs.Members.{has, place}
 use Rattle.runs.specs.Table.{runs, GoodRuns}

@@ -1,8 +1,7 @@
 -- Demand 3, stated of the calls: where the closures of s in two committed sets list the same certificates, with the same signers and
 -- contents, equal arguments and buffer sizes give equal answers and equal bytes. `demand-3` of proofs/OneClosure proves it.
-use Prim.Native.Nat.{ℕ}
 use mathlib.Core.Path.{_≡_}
-use mathlib.Core.List.{List, List·Memᴰ}
+use mathlib.Core.List.{List·Memᴰ}
 use lib.ListN.{length}
 use Rattle.rules.specs.Rules.{Closure}
 use Rattle.rules.specs.OneClosure.{ListedIn}

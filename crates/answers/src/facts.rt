@@ -1,9 +1,7 @@
 // What the tables hold, at places: the columns as they are, and for each revocation the place of the delegation that it names.
 use coverage::Facts;
-use keyline::limits::DELEGATION_LIMIT;
 use keyline::limits::REVOCATION_LIMIT;
 use runs::bytes::RUN_LENGTH;
-use runs::table::LARGE_TABLE;
 use store::Store;
 ghost use mathlib.Core.Path.{_≡_};
 ghost use Prim.Native.Nat.{_≤_, _*_};

@@ -19,7 +19,6 @@ use search::edges::Edges;
 ghost use mathlib.Core.Path.{_≡_};
 ghost use Prim.Native.Nat.{ℕ, _+_, _<_, _≤_, min, max};
 ghost use lib.ListN.{getD, length};
-ghost use Rattle.keyset.specs.Word.{bit};
 ghost use Rattle.places.specs.Limits.{keyLimit, delegationLimit, revocationLimit};
 ghost use Rattle.rules.specs.Rules.{Admin};
 ghost use Rattle.search.specs.Sets.{Word};

@@ -4,9 +4,7 @@
 use places::DELEGATION_LIMIT;
 use places::REVOCATION_LIMIT;
 use places::wide;
-ghost use mathlib.Core.Path.{_≡_};
-ghost use Prim.Native.Nat.{ℕ, _<_, _≤_};
-ghost use lib.ListN.{getD};
+ghost use Prim.Native.Nat.{_<_, _≤_};
 ghost use Rattle.places.specs.Limits.{delegationLimit, revocationLimit};
 ghost use Rattle.coverage.specs.Contexts.{Sought, Grouped};
 

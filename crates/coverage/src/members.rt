@@ -1,21 +1,16 @@
-// The covered delegations that a word over the places of revocations names: their subjects, those of them whose issuer was reached, and the
-// search that a context's members share.
+// The covered delegations that a word over the places of revocations names: their subjects, and those of them whose issuer was reached. A
+// context's members share one search, which begins at these subjects.
 
 use places::DELEGATION_LIMIT;
-use places::KEY_LIMIT;
 use places::KeyPlace;
-use places::LEVEL_COUNT;
 use places::REVOCATION_LIMIT;
 use places::wide;
 use search::Levels;
-ghost use mathlib.Core.Path.{_≡_};
-ghost use Prim.Native.Nat.{ℕ, _<_, _≤_};
-ghost use lib.ListN.{getD, length};
-ghost use Rattle.places.specs.Limits.{keyLimit, delegationLimit};
+ghost use Prim.Native.Nat.{ℕ, _<_};
+ghost use lib.ListN.{getD};
+ghost use Rattle.places.specs.Limits.{keyLimit};
 ghost use Rattle.search.specs.Sets.{Word, Among};
-ghost use Rattle.search.specs.Graph.{graph, Holds};
-ghost use Rattle.search.specs.Index.{Ready};
-ghost use Rattle.search.specs.Levels.{On, Found};
+ghost use Rattle.search.specs.Levels.{On};
 ghost use Rattle.coverage.specs.Contexts.{Within, Through};
 
 // The subjects of the delegations that the members name.

@@ -5,7 +5,6 @@ use places::DelegationPlace;
 use places::REVOCATION_LIMIT;
 use places::wide;
 ghost use Prim.Native.Nat.{_<_, _≤_};
-ghost use mathlib.Core.Path.{_≡_};
 ghost use Rattle.places.specs.Limits.{revocationLimit};
 ghost use Rattle.rules.specs.Rules.{StandingIs};
 ghost use Rattle.search.specs.Sets.{Says};

@@ -1,13 +1,13 @@
 -- The laws of a set's members (specs/Word): each operation on words, digit by digit; the lowest member; the count; when two words are
 -- equal. Proved over the number of digits, k, wherever that costs nothing: #112 will ask for them again.
 use Prim.Native.Nat.{ℕ, zero, suc, _+_, _-_, _*_, _/_, _%_, _^_, _≤_, _<_, min, max}
-use mathlib.Core.Path.{_≡_, refl, sym, ap, ap₂, _∙_, subst}
-use mathlib.Core.Logic.{_⊎_, inl, inr, ⊎-elim}
-use native.Mathlib.Nat.{mod-lt, mod-eq-of-lt, div-eq-of-lt, pow-suc, one-mul, add-sub-of-le, div-one, zero-div, mul-comm, div-lt-iff-lt-mul, le-of-lt, lt-of-lt-of-le, zero-lt-suc}
-use native.Mathlib.Decide.{decLe, decLt}
-use native.Mathlib.Numerals.{add-one, one-add}
+use mathlib.Core.Path.{_≡_, refl, sym, ap, _∙_, subst}
+use mathlib.Core.Logic.{_⊎_, inl, inr}
+use native.Mathlib.Nat.{mod-eq-of-lt, div-eq-of-lt, pow-suc, one-mul, div-one, zero-div, lt-of-lt-of-le, zero-lt-suc}
+use native.Mathlib.Decide.{decLt}
+use native.Mathlib.Numerals.{one-add}
 use native.Mathlib.Omega.{arith}
-use lib.Pow.{pow-add, pow-lt, pow-mono, pow-pos, shr-shr, shr-lt, shl-shr}
+use lib.Pow.{pow-add, pow-lt, pow-mono, shr-shr, shl-shr}
 use lib.Bits.{bitAnd, bitOr, bitXor, differ, and-shr, or-shr, xor-shr, and-step, or-step, xor-step}
 use lib.Count.{ones, ones-step, trailingZeros, under}
 use Rattle.keyset.specs.Word.{width, bit, size}

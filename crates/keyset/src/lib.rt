@@ -1,8 +1,7 @@
 // A set of keys as one 64-bit word: key i is a member where digit i is set.
 // What the search and the coverage of delegations work on. Each contract says what the members are, digit by digit.
 ghost use mathlib.Core.Path.{_≡_};
-ghost use mathlib.Core.Bool.{true, false};
-ghost use Prim.Native.Nat.{ℕ, _+_, _-_, _<_, _≤_, max, min};
+ghost use Prim.Native.Nat.{ℕ, _-_, _<_, max, min};
 ghost use lib.Dec.{eqb};
 ghost use Rattle.keyset.specs.Word.{width, bit, size};
 

@@ -2,7 +2,6 @@
 use crate::fill;
 use crate::fill::Kind;
 use crate::insert;
-use crate::make;
 use crate::make::Given;
 use crate::say;
 use keyline_memory::state::State;

@@ -7,7 +7,7 @@ use Rattle.rules.specs.Rules.{Lists}
 use Rattle.rules.proofs.Evaluation.Listing.{lists-same}
 use Rattle.runs.specs.Bytes.{Bytes, Less}
 use Rattle.runs.proofs.AscentLaws.{lt-not-both, sorted-lists}
-use Rattle.tables.specs.Committed.{Delegation, Revocation, Committed}
+use Rattle.tables.specs.Committed.{Committed}
 use Rattle.lists.specs.Lists.{filtered, listing, all, names, fromTo, certificateDelegations, certificateRevocations, subjectsOf, revocationsOf, delegationsTo, Item}
 use Rattle.lists.proofs.FilterLaws.{item-has, has-item}
 

@@ -1,26 +1,26 @@
 -- A list that is chosen by marks is the list that is asked for: by marks on the rows themselves, or on the keys that a column names.
 -- Rests on MarkLaws, FilterLaws and the laws of runs.
-use Prim.Native.Nat.{ℕ, zero, suc, _+_, _*_, _≤_, _<_, zero-le, suc-le-suc}
+use Prim.Native.Nat.{ℕ, zero, suc, _≤_, _<_, zero-le, suc-le-suc}
 use mathlib.Core.Path.{_≡_, refl, sym, ap, _∙_}
 use mathlib.Core.Bool.{Bool, true, false, cond}
 use mathlib.Core.List.{List, [], _∷_, map}
 use native.Mathlib.Omega.{arith}
-use native.Mathlib.Nat.{le-of-suc-le-suc, not-suc-le-zero}
+use native.Mathlib.Nat.{le-of-suc-le-suc}
 use lib.ListN.{length, take, getD}
 use lib.Seq.{getD-take}
 use lib.Dec.{eqb}
-use borrow.Author.Tests.{eqb-true, eq-eqb, ne-eqb}
-use Rattle.runs.specs.Bytes.{Bytes, runLength, runAt, eqBytes}
-use Rattle.runs.specs.Members.{place, has}
+use borrow.Author.Tests.{eq-eqb, ne-eqb}
+use Rattle.runs.specs.Bytes.{Bytes, runAt, eqBytes}
+use Rattle.runs.specs.Members.{place}
 use Rattle.runs.specs.Table.{largeLimit, tabulate, runs, order, Below, GoodRuns}
-use Rattle.runs.specs.Chosen.{picked, chosen, Chose, Marked}
+use Rattle.runs.specs.Chosen.{picked, chosen, Chose}
 use Rattle.runs.specs.declared.list.Chosen.{Chosen}
 use Rattle.runs.proofs.ByteLaws.{eq-true, eq-same}
 use Rattle.runs.proofs.PartLaws.{order-long}
 use Rattle.runs.proofs.TableLaws.{run-fits, found-at, runs-at, runs-long}
 use Rattle.runs.proofs.MemberLaws.{getD-place}
 use Rattle.runs.proofs.ListLaws.{chosen-sorted}
-use Rattle.lists.specs.Lists.{filtered, listing, all, Item}
+use Rattle.lists.specs.Lists.{filtered, listing, all}
 use Rattle.lists.specs.Marks.{among, chosenRuns, Stand}
 use Rattle.lists.proofs.MarkLaws.{among-stands, stands-among}
 use Rattle.lists.proofs.FilterLaws.{in-tabled, tabled, item-has, has-item}

@@ -1,6 +1,6 @@
 -- Marks, one after the other. Rests on nothing.
 use Prim.Native.Nat.{ℕ, zero, suc, _+_, _≤_, _<_}
-use mathlib.Core.Path.{_≡_, refl, sym, ap, _∙_}
+use mathlib.Core.Path.{_≡_, refl, sym, _∙_}
 use mathlib.Core.Bool.{Bool, true, false, cond}
 use mathlib.Core.List.{List, [], _∷_, _++_}
 use native.Mathlib.Omega.{arith}
@@ -9,7 +9,7 @@ use native.Mathlib.Nat.{le-of-suc-le-suc}
 use lib.ListN.{length, take, getD, set}
 use lib.Seq.{take-suc, getD-set-same, getD-set-other}
 use lib.Dec.{eqb}
-use borrow.Author.Tests.{eqb-true, eqb-false, eq-eqb, ne-eqb}
+use borrow.Author.Tests.{eqb-true, eqb-false, eq-eqb}
 use Rattle.lists.specs.Marks.{among}
 
 -- the marks below i are P's, and so is the one at i

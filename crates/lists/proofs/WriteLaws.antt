@@ -1,7 +1,7 @@
 -- Chosen runs in a buffer: how long they are, and one list behind another. Rests on ListLaws of `runs`.
 use Prim.Native.Nat.{ℕ, _+_, _-_, _*_, _≤_, _<_}
-use mathlib.Core.Path.{_≡_, refl, sym, ap, _∙_}
-use mathlib.Core.List.{List, [], _++_, map, append-nil}
+use mathlib.Core.Path.{_≡_, ap, _∙_}
+use mathlib.Core.List.{[], _++_, append-nil}
 use native.Mathlib.Omega.{arith}
 use lib.ListN.{length, take, drop, getD, length-map, length-drop, drop-of-length-le}
 use lib.Seq.{length-take-le, getD-take}

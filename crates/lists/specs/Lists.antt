@@ -12,7 +12,7 @@ use Rattle.keyline.specs.declared.refusal.Refusal.the-variants.{SmallBuffer, Ba
 use Rattle.runs.specs.Bytes.{Bytes, runLength, eqBytes, joined}
 use Rattle.runs.specs.Sorted.{sorted}
 use Rattle.keyline.specs.Limits.{keyLength}
-use Rattle.tables.specs.Committed.{Delegation, Revocation, Committed, delegationDigests, revocationDigests}
+use Rattle.tables.specs.Committed.{Delegation, Revocation, Committed}
 use Rattle.lists.specs.declared.write.Listed.{Listed}
 use Rattle.lists.specs.declared.write.Listed.the-variants as listed
 use Rattle.lists.specs.declared.write.BothListed.{BothListed}

@@ -1,4 +1,5 @@
 // The lists of a store: places are marked, taken in ascending order, and written. Each item is written by lending its own 32 bytes.
+// A list lends copies of the columns that it looks at: of a value whose own part is lent the whole is copied.
 use crate::write::BothListed;
 use crate::write::Listed;
 use keyline::limits::DELEGATION_LIMIT;

@@ -6,7 +6,7 @@ use places::KeyPlace;
 use places::wide;
 use runs::bytes;
 ghost use mathlib.Core.Path.{_≡_};
-ghost use mathlib.Core.Bool.{Bool, true, false, cond};
+ghost use mathlib.Core.Bool.{true, false, cond};
 ghost use Prim.Native.Nat.{ℕ, _≤_, _<_, _+_, _*_};
 ghost use lib.ListN.{length, getD, take};
 ghost use lib.Dec.{eqb};

@@ -1,6 +1,6 @@
 -- Lookups by identity, from document 01: they "put the issuer in one buffer and the payload or revoked digest in another, or say that it is
 -- absent and touch neither". Lengths come first, then the first buffer's fit, then the second's. Rests on what is committed.
-use Prim.Native.Nat.{ℕ, _+_, _*_, _≤_, _<_}
+use Prim.Native.Nat.{ℕ}
 use mathlib.Core.Bool.{Bool, cond}
 use mathlib.Core.List.{List}
 use lib.ListN.{length}

@@ -1,4 +1,4 @@
-// Certificates by identity.
+// Certificates by identity. A lookup lends copies of the columns that it looks at: of a value whose own part is lent the whole is copied.
 use crate::put::Looked;
 use keyline::limits::DIGEST_LENGTH;
 use keyline::refusal::Refusal;

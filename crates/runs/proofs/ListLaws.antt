@@ -1,15 +1,15 @@
 -- Laws of lists in buffers: what is put at the front; runs one behind the other; places picked from an order; and that the runs at
 -- marked places, in the table's order, are the ascending list of the marked runs. Rests on TableLaws.
-use Prim.Native.Nat.{ℕ, zero, suc, _+_, _-_, _*_, _<_, zero-le, suc-le-suc}
+use Prim.Native.Nat.{ℕ, zero, suc, _+_, _*_, _<_, zero-le, suc-le-suc}
 use mathlib.Core.Path.{_≡_, refl, sym, ap, _∙_, subst}
 use mathlib.Core.Bool.{Bool, true, false, cond}
-use mathlib.Core.Logic.{_⊎_, inl, inr}
+use mathlib.Core.Logic.{inl, inr}
 use mathlib.Core.List.{List, [], _∷_, _++_, map, append-assoc, append-nil, List·Memᴰ, List·Memᴰ·head, List·Memᴰ·tail, List·Memᴰ·cases-cons, List·Memᴰ·not-nil, Memᴰ·map, Memᴰ·of-map}
 use native.Mathlib.Omega.{arith}
 use native.Mathlib.Numerals.{add-one}
 use native.Mathlib.Nat.{le-of-suc-le-suc, not-suc-le-zero}
-use lib.ListN.{length, take, drop, getD, set, length-append, length-drop, length-set}
-use lib.Seq.{take-suc, take-suc-set, take-set-le, take-append-seam, drop-append-seam, drop-drop, drop-cons, getD-drop, length-take-le, set-at}
+use lib.ListN.{length, take, drop, getD, set, length-append, length-drop}
+use lib.Seq.{take-suc, take-suc-set, take-set-le, take-append-seam, drop-append-seam, drop-drop, drop-cons, getD-drop, set-at}
 use borrow.Rule.Slice.PartMut.{putMid}
 use Rattle.keyline.specs.Bytes.{front}
 use Rattle.rules.specs.Rules.{Ascending, done, before, Lists}

@@ -8,7 +8,7 @@ use native.Mathlib.Numerals.{add-one}
 use native.Mathlib.Nat.{le-of-suc-le-suc, not-suc-le-zero}
 use lib.ListN.{length, take, drop, getD, set, length-append, length-take, length-drop, take-append-drop, List·getD-append}
 use lib.Seq.{length-take-le, take-add, take-at, drop-at, take-append-le, drop-append-le, drop-drop, take-take, getD-take, getD-drop, getD-at, take-suc, drop-cons, set-at}
-use lib.Dec.{eqb, ltb}
+use lib.Dec.{eqb}
 use borrow.Author.Tests.{eqb-true, eqb-false}
 use Rattle.keyline.specs.Bytes.{put}
 use Rattle.runs.specs.Bytes.{Bytes, runLength, runAt}

@@ -1,6 +1,6 @@
 -- Laws of a table of runs: what stands at its places and in its order, a search, and one run more. Rests on PartLaws and SpotLaws.
 use Prim.Native.Nat.{ℕ, _+_, _-_, _*_, _≤_, _<_}
-use mathlib.Core.Path.{_≡_, refl, sym, ap, _∙_, subst}
+use mathlib.Core.Path.{_≡_, refl, sym, ap, _∙_}
 use mathlib.Core.Bool.{Bool, true, false}
 use mathlib.Core.List.{List, [], _∷_, _++_, map, map-append}
 use native.Mathlib.Omega.{arith}
@@ -11,11 +11,10 @@ use borrow.Author.Tests.{lt-ltb, le-ltb}
 use Rattle.keyline.specs.Bytes.{put}
 use Rattle.rules.specs.Rules.{Ascending, done}
 use Rattle.runs.specs.Bytes.{Bytes, Less, runLength, runAt, eqBytes, ltBytes}
-use Rattle.runs.specs.Members.{place, has, fresh, Distinct}
+use Rattle.runs.specs.Members.{place, has, fresh}
 use Rattle.runs.specs.Sorted.{sortedInto, sorted, spot}
-use Rattle.runs.specs.Table.{tabulate, runs, order, Below, GoodRuns, Room, Pushed, Internable, InternedAs}
-use Rattle.runs.specs.declared.table.Interned.{Interned}
-use Rattle.runs.proofs.ByteLaws.{eq-true, eq-same, length-run}
+use Rattle.runs.specs.Table.{tabulate, runs, order, GoodRuns, Room, Pushed, Internable, InternedAs}
+use Rattle.runs.proofs.ByteLaws.{eq-same, length-run}
 use Rattle.runs.proofs.MemberLaws.{getD-place, has-within, has-not, within-has, end-not, distinct-snoc}
 use Rattle.runs.proofs.FreshLaws.{fresh-one, fresh-new}
 use Rattle.runs.proofs.AscentLaws.{into-ascending, sorted-has}

@@ -5,7 +5,7 @@ use mathlib.Core.Bool.{Bool, true, false, cond}
 use mathlib.Core.List.{List, [], _∷_, map}
 use lib.ListN.{length, take, getD}
 use Rattle.runs.specs.Bytes.{Bytes, runLength, runAt}
-use Rattle.runs.specs.Table.{largeLimit, Below}
+use Rattle.runs.specs.Table.{largeLimit}
 use Rattle.runs.specs.declared.list.Chosen.{Chosen}
 
 -- the places of l whose mark is on

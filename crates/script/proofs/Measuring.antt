@@ -1,7 +1,6 @@
 -- The first pass over a script: what is left of it decides what all of it is.
-use Prim.Native.Nat.{ℕ, _+_, _-_, _*_, _≤_, _<_}
-use mathlib.Core.Path.{_≡_, refl, sym, ap, _∙_, subst}
-use mathlib.Core.List.{List, []}
+use Prim.Native.Nat.{ℕ, _+_, _-_, _*_, _≤_}
+use mathlib.Core.Path.{_≡_, sym, subst}
 use native.Mathlib.Omega.{arith}
 use lib.ListN.{length, drop, length-drop, drop-of-length-le}
 use lib.Seq.{take-all, drop-drop}
@@ -9,7 +8,7 @@ use borrow.Rule.Slice.PartMut.{midOf}
 use Rattle.keyline.specs.declared.refusal.Refusal.{Refusal}
 use Rattle.runs.specs.Bytes.{Bytes}
 use Rattle.wire.specs.Reply.{headLength}
-use Rattle.wire.specs.Request.{headerLength, longest, otherLimit, requestOf, lengthOf, needs, Whole, Bounded, Script, ended, next, Malformed, here, later, StepOf, whole, refused}
+use Rattle.wire.specs.Request.{headerLength, longest, otherLimit, needs, Whole, Script, ended, next, Malformed, here, later, StepOf, whole, refused}
 use Rattle.script.specs.Run.{MeasuredAs}
 use Rattle.script.specs.Run as run
 use Rattle.wire.specs.declared.request.Step.{Step}

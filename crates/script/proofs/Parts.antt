@@ -1,10 +1,10 @@
 -- A reply's three parts in a buffer, and buffers that begin as zeros.
 use Prim.Native.Nat.{ℕ, _+_, _-_, _≤_}
 use mathlib.Core.Path.{_≡_, refl, sym, ap, _∙_, subst}
-use mathlib.Core.List.{List, [], _++_, append-nil, append-assoc}
+use mathlib.Core.List.{[], _++_, append-nil}
 use native.Mathlib.Omega.{arith}
-use lib.ListN.{length, take, drop, replicate, length-take, length-drop, length-append, length-replicate, replicate-append-replicate, drop-of-length-le}
-use lib.Seq.{length-take-le, take-at, drop-at, take-append-add, drop-drop}
+use lib.ListN.{length, take, drop, length-drop, length-append, length-replicate, replicate-append-replicate, drop-of-length-le}
+use lib.Seq.{length-take-le, take-at, drop-at, take-append-add}
 use borrow.Rule.Slice.PartMut.{putMid, midOf}
 use Rattle.keyline.specs.Bytes.{put, putWithin}
 use Rattle.keyline.proofs.Fronts.{put-within}

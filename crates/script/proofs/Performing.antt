@@ -1,10 +1,10 @@
 -- The second pass over a script: the replies so far stand at the front of the answers, and what the rest answers makes them the whole.
-use Prim.Native.Nat.{ℕ, _+_, _-_, _≤_, _<_}
+use Prim.Native.Nat.{ℕ, _+_, _-_, _≤_}
 use mathlib.Core.Path.{_≡_, refl, sym, ap, _∙_, subst}
-use mathlib.Core.List.{List, [], _++_, append-nil, append-assoc}
+use mathlib.Core.List.{_++_, append-assoc}
 use native.Mathlib.Omega.{arith}
-use lib.ListN.{length, take, drop, length-take, length-drop, length-append, take-append-drop, drop-of-length-le}
-use lib.Seq.{length-take-le, take-at, drop-at, take-add, take-take, drop-drop, take-append-add, drop-append-add}
+use lib.ListN.{length, take, drop, length-drop, length-append, take-append-drop, drop-of-length-le}
+use lib.Seq.{length-take-le, take-at, drop-at, take-add, take-take, drop-drop}
 use borrow.Rule.Slice.PartMut.{midOf, putMid}
 use Rattle.runs.specs.Bytes.{Bytes}
 use Rattle.tables.specs.Committed.{Committed, nothing}
@@ -18,7 +18,6 @@ use Rattle.queries.specs.declared.evaluated.Evaluated.{Evaluated}
 use Rattle.wire.specs.Reply.{headLength, valued}
 use Rattle.wire.specs.Reply as reply
 use Rattle.wire.specs.Request.{headerLength, requestOf, lengthOf, needs, firstOf, secondOf, thirdOf, Whole, Script, Malformed, NextOf, Asked}
-use Rattle.wire.specs.Request as request
 use Rattle.script.specs.Run.{roomIn, zeros, inPlace, Replied, Changes, ChangeReplied, StateReplied, EvaluatedReplied, Runs, scriptLimit, MeasuredAs, RanAs}
 use Rattle.script.specs.Run as run
 use Rattle.keyline.specs.declared.refusal.Refusal.{Refusal}
@@ -28,7 +27,6 @@ use Rattle.script.specs.declared.run.Measured.{Measured}
 use Rattle.script.specs.declared.run.Measured.the-variants as measured
 use Rattle.script.specs.declared.run.Ran.the-variants as ran
 use Rattle.wire.specs.Operation.{isKnown}
-use Rattle.wire.specs.declared.operation.Operation.{Operation}
 use Rattle.wire.specs.declared.operation.Change.{Change}
 use Rattle.wire.specs.declared.operation.Change.the-variants as change
 use Rattle.wire.specs.declared.operation.OfState.{OfState}

@@ -1,19 +1,17 @@
 -- What a script answers is settled: two answers to one script on the same buffer coincide, in number, in what stands beside it and in every
 -- byte. Request by request, from the calls' own theorems (Settled of keyline_memory).
-use Prim.Native.Nat.{ℕ, _+_, _≤_, _<_}
+use Prim.Native.Nat.{ℕ}
 use mathlib.Core.Path.{_≡_, refl, sym, ap, _∙_, subst}
 use mathlib.Core.Bool.{true, false}
-use mathlib.Core.List.{List, [], _++_}
 use native.Mathlib.Omega.{arith}
-use lib.ListN.{length, take, drop}
+use lib.ListN.{take}
 use Rattle.keyline.specs.declared.refusal.Refusal.{Refusal}
 use Rattle.runs.specs.Bytes.{Bytes}
 use Rattle.tables.specs.Committed.{Committed, nothing}
 use Rattle.answers.proofs.Settled as calls
-use Rattle.wire.specs.Operation.{isKnown}
-use Rattle.wire.specs.Request.{requestOf, Whole, Script, ended, next, NoRequest, header, unknown, arguments, Malformed, here, later}
+use Rattle.wire.specs.Request.{Whole, Script, ended, next, NoRequest, header, unknown, arguments, Malformed, here, later}
 use Rattle.wire.specs.Reply as reply
-use Rattle.script.specs.Run.{Changes, StateAnswers, EvaluatedAnswers, inPlace, StateReplied, state-replied, EvaluatedReplied, evaluated-replied, ChangeReplied, change-replied, Replied, Runs, RanAs}
+use Rattle.script.specs.Run.{Changes, StateAnswers, EvaluatedAnswers, inPlace, state-replied, evaluated-replied, change-replied, Replied, Runs, RanAs}
 use Rattle.script.specs.Run as run
 use Rattle.wire.specs.declared.operation.Operation.{Operation}
 use Rattle.wire.specs.declared.operation.OfState.{OfState}

@@ -2,8 +2,7 @@
 -- reply is what the call that it names answers on its arguments x, y, z and in its rooms p and q. proofs/Settled: two runs coincide.
 use Prim.Native.Nat.{ℕ, _+_, _≤_, _<_}
 use mathlib.Core.Path.{_≡_}
-use mathlib.Core.Bool.{Bool}
-use mathlib.Core.List.{List, [], _++_}
+use mathlib.Core.List.{[], _++_}
 use lib.Dec.{eqb}
 use lib.ListN.{length, take, drop, replicate}
 use Rattle.keyline.specs.declared.refusal.Refusal.{Refusal}

@@ -2,8 +2,6 @@
 use crate::answer;
 use crate::ask;
 use keyline::refusal::Refusal;
-use keyline_memory::state::State;
-use queries::evaluated::Evaluated;
 use tables::answer::is_added;
 use wire::operation::Change;
 use wire::operation::Operation;
@@ -11,7 +9,6 @@ use wire::reply::HEAD;
 use wire::request;
 use wire::request::HEADER;
 use wire::request::Step;
-ghost use mathlib.Core.Path.{_≡_};
 ghost use Prim.Native.Nat.{_≤_};
 ghost use lib.ListN.{length};
 ghost use Rattle.tables.specs.Committed.{nothing};

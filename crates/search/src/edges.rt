@@ -4,7 +4,6 @@
 use places::DELEGATION_LIMIT;
 use places::KEY_LIMIT;
 use places::wide;
-ghost use mathlib.Core.Path.{_≡_};
 ghost use Prim.Native.Nat.{ℕ, _≤_, _<_};
 ghost use lib.ListN.{getD};
 ghost use Rattle.places.specs.Limits.{keyLimit, delegationLimit};

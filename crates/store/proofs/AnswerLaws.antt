@@ -2,22 +2,21 @@
 use Prim.Native.Nat.{ℕ, _+_, _≤_, _<_}
 use mathlib.Core.Path.{_≡_, refl, sym, ap, _∙_}
 use mathlib.Core.Bool.{Bool, true, false, cond}
-use mathlib.Core.List.{List, []}
+use mathlib.Core.List.{List}
 use native.Mathlib.Omega.{arith}
 use lib.ListN.{length, getD}
 use lib.Dec.{ltb, eqb}
-use borrow.Author.Tests.{eqb-true, ltb-true, ltb-false, lt-ltb, le-ltb}
+use borrow.Author.Tests.{eqb-true, ltb-true, ltb-false}
 use Rattle.codec.specs.Delegation.{decoded}
 use Rattle.keyline.specs.declared.power.Power.{Power}
 use Rattle.codec.specs.declared.delegation.Decoded.{Decoded}
 use Rattle.codec.specs.declared.delegation.Decoded.the-variants as reading
 use Rattle.keyline.specs.declared.refusal.Refusal.{Refusal}
 use Rattle.keyline.specs.declared.refusal.Refusal.the-variants.{FullDelegations, FullRevocations, FullKeys}
-use Rattle.places.specs.declared.KeyPlace.{KeyPlace}
 use Rattle.places.specs.declared.DelegationPlace.{DelegationPlace}
 use Rattle.places.specs.declared.RevocationPlace.{RevocationPlace}
 use Rattle.runs.specs.Bytes.{Bytes, runAt}
-use Rattle.runs.specs.Members.{place, has, fresh}
+use Rattle.runs.specs.Members.{place, fresh}
 use Rattle.runs.specs.Table.{runs}
 use Rattle.keyline.specs.Limits.{keyLength, digestLength, keyLimit, delegationLimit, revocationLimit}
 use Rattle.tables.specs.Committed.{Delegation, Revocation, delegationKeys, revocationKeys, sameContent, sameRevoked}
@@ -26,7 +25,7 @@ use Rattle.tables.specs.Columns.{keyPlace, rowAt}
 use Rattle.tables.specs.Look.{delegationThere, revocationThere}
 use Rattle.store.specs.Store.{committed, GoodStore}
 use Rattle.tables.specs.declared.answer.Answer.{Answer}
-use Rattle.tables.specs.declared.answer.Answer.the-variants.{Added, NotAdded, Refused}
+use Rattle.tables.specs.declared.answer.Answer.the-variants.{Added, Refused}
 use Rattle.store.specs.declared.Store.{Store}
 use Rattle.tables.proofs.ContentLaws.{any-digest, any-revoked}
 use Rattle.store.proofs.ViewLaws.{keys-same, delegations-long, revocations-long, delegation-found, delegation-is, revocation-found, revocation-is}

@@ -3,20 +3,20 @@ use Prim.Native.Nat.{ℕ, _+_, _*_, _≤_, _<_}
 use mathlib.Core.Path.{_≡_, refl, sym, ap, _∙_}
 use mathlib.Core.Bool.{Bool, true, false, cond, not}
 use mathlib.Core.Logic.{inl, inr}
-use mathlib.Core.List.{List, [], _∷_, _++_}
+use mathlib.Core.List.{List, [], _∷_}
 use native.Mathlib.Omega.{arith}
 use lib.ListN.{length}
 use lib.Dec.{ltb, eqb}
 use borrow.Author.Tests.{eqb-true}
 use Rattle.keyline.specs.Bytes.{put}
 use Rattle.runs.specs.Bytes.{Bytes, runLength, runAt}
-use Rattle.runs.specs.Members.{place, has, fresh}
+use Rattle.runs.specs.Members.{place, fresh}
 use Rattle.runs.specs.Table.{runs, GoodRuns, Room}
 use Rattle.runs.proofs.PartLaws.{length-put, run-before, run-here}
 use Rattle.runs.proofs.TableLaws.{runs-long, has-place}
 use Rattle.keyline.specs.Limits.{keyLimit, digestLength}
 use Rattle.tables.specs.Committed.{Committed}
-use Rattle.tables.specs.Insertion.{isAdded, settled}
+use Rattle.tables.specs.Insertion.{isAdded}
 use Rattle.store.specs.Store.{committed, GoodStore, Insertion}
 use Rattle.tables.specs.declared.answer.Answer.{Answer}
 use Rattle.tables.specs.declared.answer.Answer.the-variants.{Added, NotAdded, Refused}

@@ -1,12 +1,12 @@
 -- The keys of a certificate, put into the table one after the other. Rests on the laws of fresh runs.
 use Prim.Native.Nat.{ℕ, _+_, _≤_, _<_}
-use mathlib.Core.Path.{_≡_, refl, sym, ap, _∙_}
+use mathlib.Core.Path.{_≡_, sym, ap, _∙_}
 use mathlib.Core.List.{List, [], _∷_, _++_}
 use native.Mathlib.Omega.{arith}
 use lib.ListN.{length, length-append}
 use Rattle.runs.specs.Bytes.{Bytes, runLength, runAt}
 use Rattle.runs.specs.Members.{fresh}
-use Rattle.runs.specs.Table.{largeLimit, runs, GoodRuns, Internable, InternedAs}
+use Rattle.runs.specs.Table.{runs, GoodRuns, Internable, InternedAs}
 use Rattle.runs.specs.declared.table.Interned.{Interned}
 use Rattle.runs.proofs.FreshLaws.{fresh-more}
 use Rattle.runs.proofs.PartLaws.{tabulate-long}

@@ -1,8 +1,8 @@
 -- A store with one certificate more: it holds that one beside the others, and is good. Rests on KeyLaws and ViewLaws.
 use Prim.Native.Nat.{ℕ, _+_, _*_, _≤_, _<_}
-use mathlib.Core.Path.{_≡_, refl, sym, ap, _∙_, subst}
+use mathlib.Core.Path.{_≡_, refl, sym, ap, _∙_}
 use mathlib.Core.Bool.{Bool, true, false, cond}
-use mathlib.Core.List.{List, [], _∷_, _++_, map, append-assoc, append-nil}
+use mathlib.Core.List.{List, [], _∷_, _++_, append-assoc, append-nil}
 use native.Mathlib.Omega.{arith}
 use lib.ListN.{length, getD, set, length-set, length-append}
 use lib.Seq.{getD-set-same, getD-set-other, getD-at}
@@ -11,8 +11,8 @@ use borrow.Author.Tests.{eqb-true, eqb-false}
 use Rattle.keyline.specs.Power.{rankOf}
 use Rattle.keyline.proofs.Levels.{rank-below}
 use Rattle.runs.specs.Bytes.{Bytes, runLength, runAt}
-use Rattle.runs.specs.Members.{has, fresh, SameRuns}
-use Rattle.runs.specs.Table.{tabulate, runs, GoodRuns, Pushed}
+use Rattle.runs.specs.Members.{has, fresh}
+use Rattle.runs.specs.Table.{tabulate, runs, Pushed}
 use Rattle.runs.proofs.BoolLaws.{or}
 use Rattle.runs.proofs.MemberLaws.{has-append}
 use Rattle.runs.proofs.FreshLaws.{fresh-has}
@@ -22,10 +22,8 @@ use Rattle.keyline.specs.Limits.{keyLimit, delegationLimit, revocationLimit}
 use Rattle.keyline.specs.Power.{levelCount}
 use Rattle.tables.specs.Committed.{Delegation, Revocation, Committed, delegationKeys, revocationKeys, keysOf, keysIn}
 use Rattle.tables.specs.Insertion.{withDelegation, withRevocation}
-use Rattle.tables.specs.Columns.{keyPlace, rowAt, rowSays, delegationAt, revocationAt, Places, Ranks, powerOf}
+use Rattle.tables.specs.Columns.{delegationAt, revocationAt, Places, Ranks}
 use Rattle.store.specs.Store.{committed, GoodStore, GoodDelegations, GoodRevocations}
-use Rattle.tables.specs.declared.delegations.Delegations.{Delegations}
-use Rattle.tables.specs.declared.revocations.Revocations.{Revocations}
 use Rattle.store.specs.declared.Store.{Store}
 use Rattle.tables.proofs.ContentLaws.{power-rank}
 use Rattle.store.proofs.MadeLaws.{delegation-made, revocation-made, committed-made}

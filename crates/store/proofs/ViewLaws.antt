@@ -1,27 +1,25 @@
 -- What is committed, read at places, and that the checks see in the tables what they see in what is committed. Rests on the laws of runs.
 use Prim.Native.Nat.{ℕ, _+_, _*_, _≤_, _<_}
-use mathlib.Core.Path.{_≡_, refl, sym, ap, _∙_}
-use mathlib.Core.Bool.{Bool, true, false, cond}
-use mathlib.Core.List.{List, [], _∷_, _++_, map}
+use mathlib.Core.Path.{_≡_, sym, _∙_}
+use mathlib.Core.List.{List}
 use native.Mathlib.Omega.{arith}
 use lib.ListN.{length, getD}
 use lib.Dec.{ltb}
 use Rattle.places.specs.declared.KeyPlace.{KeyPlace}
 use Rattle.places.specs.declared.DelegationPlace.{DelegationPlace}
 use Rattle.places.specs.declared.RevocationPlace.{RevocationPlace}
-use Rattle.runs.specs.Bytes.{Bytes, runLength, runAt}
-use Rattle.runs.specs.Members.{place, has, fresh, SameRuns, Distinct}
-use Rattle.runs.specs.Table.{tabulate, runs, GoodRuns}
+use Rattle.runs.specs.Bytes.{Bytes, runLength}
+use Rattle.runs.specs.Members.{place, has, SameRuns, Distinct}
+use Rattle.runs.specs.Table.{runs}
 use Rattle.runs.proofs.PartLaws.{tabulate-long, tabulate-at, tabulate-map}
 use Rattle.runs.proofs.FreshLaws.{fresh-same, count-same, all-has}
-use Rattle.runs.proofs.TableLaws.{runs-long, has-place, run-fits}
+use Rattle.runs.proofs.TableLaws.{has-place, run-fits}
 use Rattle.keyline.specs.Limits.{keyLimit, delegationLimit, revocationLimit}
-use Rattle.tables.specs.Committed.{Delegation, Revocation, Committed, noDelegation, noRevocation, delegationDigests, revocationDigests, delegationWith, revocationWith, keysIn, keys, lengthOf}
-use Rattle.tables.specs.Insertion.{Seen, seenDelegation, seenRevocation, delegationAnswer, revocationAnswer, keysAnswer}
+use Rattle.tables.specs.Committed.{Committed, noDelegation, noRevocation, delegationDigests, revocationDigests, delegationWith, revocationWith, keysIn, keys, lengthOf}
+use Rattle.tables.specs.Insertion.{keysAnswer}
 use Rattle.tables.specs.Columns.{rowAt, delegationAt, revocationAt}
-use Rattle.tables.specs.Look.{RowFits, RevocationFits, delegationThere, revocationThere}
+use Rattle.tables.specs.Look.{RowFits, RevocationFits}
 use Rattle.store.specs.Store.{committed, GoodStore}
-use Rattle.tables.specs.declared.delegations.DelegationRow.{DelegationRow}
 use Rattle.store.specs.declared.Store.{Store}
 
 -- ---- what stands at a place

@@ -1,9 +1,9 @@
 -- What a store's value stands for, and what holds of every store. Rests on tables' Columns and Insertion.
-use Prim.Native.Nat.{ℕ, _+_, _*_, _≤_, _<_}
+use Prim.Native.Nat.{ℕ, _+_, _*_}
 use mathlib.Core.Path.{_≡_}
 use mathlib.Core.Bool.{false}
 use lib.ListN.{length}
-use Rattle.runs.specs.Bytes.{Bytes, runLength}
+use Rattle.runs.specs.Bytes.{runLength}
 use Rattle.runs.specs.Members.{SameRuns}
 use Rattle.runs.specs.Table.{tabulate, runs, GoodRuns}
 use Rattle.keyline.specs.Limits.{keyLimit, delegationLimit, revocationLimit}

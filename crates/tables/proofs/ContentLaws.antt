@@ -1,15 +1,15 @@
 -- Content is issuer and payload: equal content is equal issuer and equal payload bytes; the parts settle the payload's bytes, and an accepted
 -- payload is the one that its delegation came as. Rests on the payload's round trips.
-use Prim.Native.Nat.{ℕ, zero, suc, _+_, _<_}
-use mathlib.Core.Path.{_≡_, refl, sym, ap, _∙_}
+use Prim.Native.Nat.{ℕ, _+_, _<_}
+use mathlib.Core.Path.{_≡_, refl, sym, ap}
 use mathlib.Core.Bool.{Bool, true, false, cond}
-use mathlib.Core.List.{List, [], _∷_, _++_}
+use mathlib.Core.List.{[], _∷_, _++_}
 use native.Mathlib.Omega.{arith}
-use lib.ListN.{length, take, drop, getD}
+use lib.ListN.{length}
 use lib.Dec.{eqb}
 use borrow.Author.Tests.{eq-eqb, eqb-true, eqb-false}
 use Rattle.keyline.specs.Power.{byteOf, rankOf, levelOf}
-use Rattle.codec.specs.Delegation.{decoded, citationOf, encoded, tagFor}
+use Rattle.codec.specs.Delegation.{decoded, encoded, tagFor}
 use Rattle.keyline.specs.declared.power.Power.{Power}
 use Rattle.keyline.specs.declared.power.Power.the-variants.{Relay, Read, Edit, Admin}
 use Rattle.keyline.specs.declared.power.Level.the-variants.{Is, Unknown}

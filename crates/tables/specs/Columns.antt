@@ -1,5 +1,5 @@
 -- A row of a table, column by column: the places of keys, the rank of a power, a citation or none. Rests on runs at places.
-use Prim.Native.Nat.{ℕ, _*_, _<_}
+use Prim.Native.Nat.{ℕ, _<_}
 use mathlib.Core.Path.{_≡_}
 use mathlib.Core.Bool.{Bool, false, cond}
 use mathlib.Core.List.{List, []}

@@ -10,7 +10,7 @@ use Rattle.codec.specs.Delegation.{encoded}
 use Rattle.keyline.specs.declared.power.Power.{Power}
 use Rattle.keyline.specs.declared.power.Power.the-variants.{Relay}
 use Rattle.runs.specs.Bytes.{Bytes, eqBytes}
-use Rattle.runs.specs.Members.{place, has, fresh}
+use Rattle.runs.specs.Members.{place, fresh}
 
 -- a held delegation; its citation is empty where there is none
 pub record Delegation : Type 0 where

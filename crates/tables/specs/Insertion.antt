@@ -1,7 +1,6 @@
 -- Insertion, from document 01: "Checks in order: lengths (1), in the order named; payload (2 to 4); identity held with equal content:
 -- answer "not added"; identity held with other content: 5; table full: 6 or 7; keys full: 8". Rests on Committed.
 use Prim.Native.Nat.{ℕ, _+_}
-use mathlib.Core.Path.{_≡_}
 use mathlib.Core.Bool.{Bool, true, false, cond}
 use mathlib.Core.List.{List, [], _∷_, _++_}
 use lib.ListN.{length, take, drop}
@@ -11,7 +10,6 @@ use Rattle.codec.specs.Delegation.{decoded, citationOf}
 use Rattle.keyline.specs.declared.power.Power.{Power}
 use Rattle.codec.specs.declared.delegation.Decoded.{Decoded}
 use Rattle.codec.specs.declared.delegation.Decoded.the-variants as reading
-use Rattle.keyline.specs.declared.refusal.Refusal.{Refusal}
 use Rattle.keyline.specs.declared.refusal.Refusal.the-variants.{BadLength, Conflict, FullDelegations, FullRevocations, FullKeys}
 use Rattle.runs.specs.Bytes.{Bytes}
 use Rattle.runs.specs.Members.{has, fresh}

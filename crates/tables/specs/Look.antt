@@ -1,8 +1,8 @@
 -- What an insertion looks at, as the tables have it: the table k of m keys, how many certificates of the kind there are, the place at
 -- which the digest was found, and what stands there. Rests on Columns and Insertion.
 use Prim.Native.Nat.{ℕ, _+_, _*_, _≤_, _<_}
-use mathlib.Core.Bool.{Bool, cond}
-use mathlib.Core.List.{List, []}
+use mathlib.Core.Bool.{cond}
+use mathlib.Core.List.{[]}
 use lib.ListN.{length}
 use lib.Dec.{ltb}
 use Rattle.keyline.specs.declared.power.Power.{Power}

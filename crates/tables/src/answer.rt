@@ -16,9 +16,9 @@ ghost use mathlib.Core.Path.{_≡_};
 ghost use Prim.Native.Nat.{_<_, _≤_};
 ghost use lib.ListN.{length};
 ghost use Rattle.runs.specs.Table.{GoodRuns};
-ghost use Rattle.keyline.specs.Limits.{keyLimit, keyLength, digestLength};
+ghost use Rattle.keyline.specs.Limits.{keyLimit, keyLength};
 ghost use Rattle.tables.specs.Committed.{sameParts, sameRevoked};
-ghost use Rattle.tables.specs.Insertion.{isAdded, heldAnswer, acceptedAnswer, delegationCheck, revocationSettled, revocationCheck};
+ghost use Rattle.tables.specs.Insertion.{isAdded, heldAnswer, acceptedAnswer, delegationCheck, revocationCheck};
 ghost use Rattle.tables.specs.Look.{argument, revocationArgument, RowFits, RevocationFits, rowThere, revokedThere, delegationThere, revocationThere, roomAnswer};
 
 pub enum Answer {

@@ -5,13 +5,13 @@ use runs::bytes;
 use runs::table;
 use runs::table::SMALL_TABLE;
 ghost use mathlib.Core.Path.{_≡_};
-ghost use mathlib.Core.Bool.{Bool, true, false, cond};
+ghost use mathlib.Core.Bool.{true, cond};
 ghost use mathlib.Core.List.{[], _∷_};
 ghost use Prim.Native.Nat.{_≤_, _+_};
 ghost use lib.ListN.{length};
-ghost use Rattle.runs.specs.Bytes.{runLength, eqBytes};
+ghost use Rattle.runs.specs.Bytes.{eqBytes};
 ghost use Rattle.runs.specs.Members.{place, has, fresh};
-ghost use Rattle.runs.specs.Table.{runs, GoodRuns, Internable, InternedAs};
+ghost use Rattle.runs.specs.Table.{runs, GoodRuns};
 ghost use Rattle.keyline.specs.Limits.{keyLimit, keyLength};
 
 pub struct Keys {

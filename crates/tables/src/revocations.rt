@@ -8,7 +8,7 @@ use runs::bytes::RUN_LENGTH;
 use runs::table;
 use runs::table::SMALL_TABLE;
 ghost use mathlib.Core.Path.{_≡_};
-ghost use Prim.Native.Nat.{_≤_, _<_, _+_, _*_};
+ghost use Prim.Native.Nat.{_<_, _*_};
 ghost use lib.ListN.{length, getD, set};
 ghost use Rattle.keyline.specs.Bytes.{put};
 ghost use Rattle.runs.specs.Bytes.{runLength};

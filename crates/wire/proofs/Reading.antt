@@ -1,7 +1,7 @@
 -- A request that the code has read is the definition's, so that what the code tests of it holds of the definition.
 use Prim.Native.Nat.{ℕ, _+_, _-_, _≤_, _<_}
-use mathlib.Core.Path.{_≡_, refl, sym, ap, _∙_, subst}
-use mathlib.Core.Bool.{Bool, true, false}
+use mathlib.Core.Path.{_≡_, sym, ap, _∙_, subst}
+use mathlib.Core.Bool.{Bool, true}
 use native.Mathlib.Omega.{arith}
 use borrow.Rule.Slice.PartMut.{midOf}
 use lib.ListN.{length, drop}
@@ -9,7 +9,6 @@ use Rattle.runs.specs.Bytes.{Bytes}
 use Rattle.wire.specs.Operation.{isKnown}
 use Rattle.wire.specs.Request.{headerLength, requestOf, lengthOf, needs, Whole, Bounded, StepOf, whole, Script, ended, next, NextOf, firstOf, secondOf, thirdOf}
 use Rattle.wire.specs.declared.request.Request.{Request}
-use Rattle.wire.specs.declared.request.Step.{Step}
 use Rattle.wire.specs.declared.request.Step.the-variants as step
 
 pub known-of : (s : Bytes) (q : Request) (b v : Bool) → q ≡ requestOf s → b ≡ isKnown (q .operation) → b ≡ v → isKnown (requestOf s .operation) ≡ v

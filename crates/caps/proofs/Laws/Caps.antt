@@ -1,12 +1,12 @@
 -- Caps: what stays between rounds, and that at the end they are the caps of the rules. Assumes nothing.
 use Prim.Native.Nat.{ℕ, zero, suc, pred, _+_, _≤_, _<_, min, max}
-use mathlib.Core.Path.{_≡_, refl, sym, ap, _∙_, subst}
+use mathlib.Core.Path.{_≡_, refl, sym, _∙_, subst}
 use mathlib.Core.List.{List}
 use mathlib.Core.Logic.{_⊎_, inl, inr, ⊎-elim}
 use mathlib.Core.Option.{Option}
 use native.Mathlib.Omega.{arith}
 use native.Mathlib.Decide.{ℕ-discrete, decLt}
-use lib.ListN.{getD, length}
+use lib.ListN.{getD}
 use Rattle.keyset.specs.Word.{bit}
 use Rattle.places.specs.Limits.{delegationLimit}
 use Rattle.rules.specs.Rules.{Answer, LiveCovered, LiveUncovered, Live, Avoiding, PreFixed, Caps}

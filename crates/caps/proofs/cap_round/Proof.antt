@@ -1,13 +1,11 @@
 -- `caps::cap_round` meets its contract. The loop's invariant: the living members of the first c contexts are raised.
 use borrow.Author.Needs.{needs}
 use Prim.Native.Nat.{ℕ, _≤_, _-_}
-use mathlib.Core.Path.{_≡_, refl, _∙_, subst}
+use mathlib.Core.Path.{_≡_, _∙_, subst}
 use native.Mathlib.Omega.{arith}
 use denote.Ref.{now}
-use lib.ListN.{length, getD}
-use Rattle.keyset.specs.Word.{bit}
-use Rattle.keyset.proofs.Laws.{bit-le, bit-none}
-use Rattle.places.specs.Limits.{delegationLimit}
+use lib.ListN.{getD}
+use Rattle.keyset.proofs.Laws.{bit-le}
 use Rattle.search.specs.Graph.{Graph, graph}
 use Rattle.caps.specs.Caps.{Lifted}
 use Rattle.coverage.proofs.Laws.Flags.{bit-zero}

@@ -1,7 +1,6 @@
 -- `caps::caps` meets its contract. The loop's invariant: no cap is above the least levels (`Rising`). A round that is not the last raises a grade, and at
 -- the last the grades are the caps.
 use borrow.Author.Needs.{needs}
-use Prim.Native.Nat.{ℕ}
 use native.Mathlib.Omega.{arith}
 use denote.Ref.{now}
 use Rattle.coverage.proofs.Laws.Seek.{ready}

@@ -10,7 +10,7 @@ use lib.Seq.{getD-set-same, getD-set-other}
 use Rattle.keyset.specs.Word.{bit}
 use Rattle.keyset.proofs.Laws.{bit-le, bit-two}
 use Rattle.places.specs.Limits.{delegationLimit}
-use Rattle.rules.specs.Rules.{Admin, Positive, Excluded, revoker, administered, Covered}
+use Rattle.rules.specs.Rules.{Admin, Positive, Excluded, revoker, administered}
 use Rattle.rules.proofs.Derivations.Answers.{just}
 use Rattle.rules.proofs.Derivations.Monotone.{stands-top}
 use Rattle.search.specs.Sets.{Word, Among}

@@ -10,7 +10,7 @@ use lib.Seq.{getD-set-same, getD-set-other}
 use Rattle.keyset.specs.Word.{bit, size}
 use Rattle.keyset.proofs.Laws.{bit-two, bit-none, size-more}
 use Rattle.places.specs.Limits.{revocationLimit}
-use Rattle.search.specs.Sets.{Word, Among}
+use Rattle.search.specs.Sets.{Word}
 use Rattle.coverage.specs.Contexts.{Through, Put}
 
 -- those that were taken: members that are no longer left

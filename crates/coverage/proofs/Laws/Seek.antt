@@ -1,5 +1,5 @@
 -- One search at places: what it may take for granted, and that the levels it finds are the rules' levels. Assumes nothing.
-use Prim.Native.Nat.{ℕ, zero, suc, _≤_, _<_}
+use Prim.Native.Nat.{ℕ, zero, suc, _≤_}
 use mathlib.Core.Path.{_≡_, refl}
 use mathlib.Core.List.{List}
 use mathlib.Core.Option.{Option}
@@ -7,7 +7,7 @@ use native.Mathlib.Omega.{arith}
 use lib.ListN.{getD}
 use Rattle.keyset.specs.Word.{bit}
 use Rattle.keyset.proofs.Laws.{bit-le}
-use Rattle.rules.specs.Rules.{D1, D2, D3, Answer, absent, level, Greatest}
+use Rattle.rules.specs.Rules.{D1, D2, D3, Answer, absent, level}
 use Rattle.rules.proofs.Derivations.Answers.{AtLeast, Under, answer-carry}
 use Rattle.rules.specs.Rows.{levelOf}
 use Rattle.search.specs.Sets.{Word}

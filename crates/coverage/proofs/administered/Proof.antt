@@ -1,8 +1,7 @@
 -- `coverage::administered` meets its contract. The loop's invariant: of the subjects that are no longer left, r has those that a key of w administers.
 use borrow.Author.Needs.{needs}
 use Prim.Native.Nat.{ℕ}
-use mathlib.Core.Path.{_≡_, subst, sym}
-use denote.Ref.{now}
+use mathlib.Core.Path.{subst, sym}
 use Rattle.keyset.specs.Word.{size}
 use Rattle.places.specs.Limits.{keyLimit}
 use Rattle.rules.specs.Rules.{Admin}

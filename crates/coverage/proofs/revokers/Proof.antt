@@ -1,10 +1,9 @@
 -- `coverage::revokers` meets its contract. The loop's invariant: the words stand for the first j revocations.
 use borrow.Author.Needs.{needs}
-use Prim.Native.Nat.{ℕ, _≤_, _<_, _-_, _+_}
-use mathlib.Core.Path.{_≡_, refl, sym, ap, _∙_, subst}
+use Prim.Native.Nat.{ℕ, _≤_, _-_}
+use mathlib.Core.Path.{_≡_, sym, subst}
 use native.Mathlib.Omega.{arith}
 use denote.Ref.{now}
-use lib.ListN.{getD}
 use Rattle.coverage.specs.Coverage.{RevokersBy}
 use Rattle.coverage.proofs.Laws.Cover.{revokers-none, revokers-more, revokers-skip}
 use Rattle.coverage.proofs.revokers.Statement.{statement}

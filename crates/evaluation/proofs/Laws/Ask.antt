@@ -2,7 +2,7 @@
 use Prim.Native.Nat.{ℕ, zero, suc, pred, _+_, _≤_, _<_, min}
 use mathlib.Core.Path.{_≡_, refl, sym, ap, _∙_, subst}
 use mathlib.Core.List.{List}
-use mathlib.Core.Logic.{inl, inr, ⊎-elim}
+use mathlib.Core.Logic.{inl, inr}
 use mathlib.Core.Option.{Option, none, some}
 use native.Mathlib.Omega.{arith}
 use native.Mathlib.Decide.{ℕ-discrete}
@@ -19,7 +19,7 @@ use Rattle.search.specs.Sets.{Word}
 use Rattle.search.specs.Levels.{height, word, Found}
 use Rattle.search.proofs.Laws.Answer.{found-only, found-has}
 use Rattle.coverage.specs.Arrays.{Filled}
-use Rattle.coverage.specs.Places.{places, Fit, Grades, Names, Subject, Over}
+use Rattle.coverage.specs.Places.{places, Fit, Grades, Over}
 use Rattle.coverage.specs.Coverage.{NamedBelow}
 use Rattle.caps.specs.Caps.{level-of, Capped}
 use Rattle.evaluation.specs.Result.{Evaluated}

@@ -1,6 +1,6 @@
 -- `keyset::only` meets its contract.
 use borrow.Author.Needs.{needs}
-use mathlib.Core.Path.{_≡_, ap, _∙_}
+use mathlib.Core.Path.{ap, _∙_}
 use Prim.Native.Nat.{ℕ}
 use Rattle.keyset.specs.Word.{bit}
 use Rattle.keyset.proofs.Laws.{one-bit, bit-one-same, bit-one-other}

@@ -7,7 +7,7 @@ use native.Mathlib.Omega.{arith}
 use native.Mathlib.Decide.{ℕ-discrete}
 use lib.ListN.{getD}
 use Rattle.keyset.specs.Word.{bit}
-use Rattle.keyset.proofs.Laws.{bit-le, bit-two, bit-none}
+use Rattle.keyset.proofs.Laws.{bit-le, bit-two}
 use Rattle.rules.proofs.Derivations.Monotone.{mono}
 use Rattle.search.specs.Sets.{Word, Among}
 use Rattle.search.specs.Graph.{Graph, graph, world, Holds}

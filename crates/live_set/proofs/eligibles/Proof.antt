@@ -1,6 +1,6 @@
 -- `live_set::eligibles` meets its contract. The loop's invariant: of the first j revocations, w has those that name an eligible delegation.
 use borrow.Author.Needs.{needs}
-use Prim.Native.Nat.{ℕ, _≤_, _<_, _-_}
+use Prim.Native.Nat.{_≤_, _-_}
 use mathlib.Core.Path.{_≡_}
 use native.Mathlib.Omega.{arith}
 use denote.Ref.{now}

@@ -1,5 +1,4 @@
 -- `live_set::excludes_an_endpoint` meets its contract: one of the two is in the set, or neither is.
-use mathlib.Core.Path.{_≡_}
 use mathlib.Core.Logic.{inl, inr, ⊎-elim}
 use Rattle.search.proofs.Laws.Sets.{says-in, or-false, or-true}
 use borrow.Author.Needs.{needs}

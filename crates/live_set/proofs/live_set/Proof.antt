@@ -1,7 +1,6 @@
 -- `live_set::live_set` meets its contract. The loop's invariant: what is usable and what waits (`Usables`). Each round that is not the last takes from
 -- those that wait, and at the last the usable ones are the live ones.
 use borrow.Author.Needs.{needs}
-use Prim.Native.Nat.{ℕ}
 use native.Mathlib.Omega.{arith}
 use denote.Ref.{now}
 use Rattle.keyset.specs.Word.{size}

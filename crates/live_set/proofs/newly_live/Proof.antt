@@ -6,7 +6,6 @@ use mathlib.Core.List.{List}
 use native.Mathlib.Omega.{arith}
 use denote.Ref.{now}
 use lib.ListN.{getD}
-use Rattle.keyset.specs.Word.{bit}
 use Rattle.keyset.proofs.Laws.{bit-le}
 use Rattle.search.specs.Sets.{Word}
 use Rattle.search.specs.Graph.{graph}

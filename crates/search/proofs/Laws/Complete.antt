@@ -1,5 +1,5 @@
 -- A search in which no root is left: what is closed is complete, so the words are exactly what D1 to D3 derive. Assumes nothing.
-use Prim.Native.Nat.{ℕ, zero, suc, pred, _+_, _*_, _^_, _≤_, _<_, min}
+use Prim.Native.Nat.{ℕ, zero, suc, pred, _+_, _*_, _^_, _≤_, _<_}
 use mathlib.Core.Path.{_≡_, refl, sym, ap, _∙_, subst}
 use mathlib.Core.List.{List}
 use mathlib.Core.Logic.{_⊎_, inl, inr, ⊎-elim}
@@ -11,7 +11,7 @@ use Rattle.places.specs.Limits.{keyLimit, levelCount}
 use Rattle.rules.specs.Rules.{D1, D2, D3}
 use Rattle.rules.proofs.Derivations.Answers.{just}
 use Rattle.rules.proofs.Derivations.Monotone.{stands-top}
-use Rattle.search.specs.Graph.{Graph, At, Holds}
+use Rattle.search.specs.Graph.{Graph, Holds}
 use Rattle.search.specs.Index.{Ready}
 use Rattle.search.specs.Levels.{On, Found}
 use Rattle.search.specs.Walk.{Sound}

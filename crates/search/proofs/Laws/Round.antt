@@ -1,6 +1,6 @@
 -- One pass of a round: r's new row is stored, new subjects are known, and the roots that wait for r fall due. Every other root stays closed. Assumes nothing.
 use Prim.Native.Nat.{ℕ, zero, suc, _+_, _-_, _*_, _^_, _≤_, _<_, min, max}
-use mathlib.Core.Path.{_≡_, refl, sym, ap, _∙_, subst}
+use mathlib.Core.Path.{_≡_, sym, ap, _∙_, subst}
 use mathlib.Core.Bool.{Bool, true, false}
 use mathlib.Core.List.{List}
 use mathlib.Core.Logic.{_⊎_, inl, inr, ⊎-elim}
@@ -14,7 +14,7 @@ use Rattle.rules.proofs.Derivations.Monotone.{stands-out}
 use Rattle.search.specs.Sets.{Word, Among}
 use Rattle.search.specs.Graph.{Graph, At}
 use Rattle.search.specs.Levels.{word, On}
-use Rattle.search.specs.Walk.{In, Leads, Sound, Row}
+use Rattle.search.specs.Walk.{In, Sound, Row}
 use Rattle.search.specs.Rounds.{Stored, Closed, room, Going, Falls, Passed}
 use Rattle.search.proofs.Laws.Sets.{place}
 use Rattle.search.proofs.Laws.Room.{words, Under, by-words, total-le, total-mono, total-more, room-le, room-keys, room-roots}

@@ -1,18 +1,15 @@
 -- Every table is empty, and every column is zeros.
-use Prim.Native.Nat.{ℕ, _+_, _*_, _<_}
+use Prim.Native.Nat.{ℕ}
 use mathlib.Core.Path.{_≡_, refl}
-use mathlib.Core.List.{List, []}
 use native.Mathlib.Omega.{arith}
-use lib.ListN.{length, getD, replicate, length-replicate, getD-replicate, List·getD-eq-default}
+use lib.ListN.{getD, replicate, length-replicate, getD-replicate, List·getD-eq-default}
 use lib.Dec.{ltb}
 use borrow.Author.Tests.{ltb-true, ltb-false}
 use mathlib.Core.Bool.{Bool, true, false}
-use Rattle.runs.specs.Bytes.{Bytes, runLength}
 use Rattle.runs.specs.Table.{tabulate}
 use Rattle.runs.specs.Members.{has}
 use Rattle.runs.proofs.TableLaws.{none-good}
 use Rattle.keyline.specs.Limits.{keyLimit, delegationLimit, revocationLimit}
-use Rattle.keyline.specs.Power.{levelCount}
 use Rattle.tables.specs.Committed.{keysOf, keysIn}
 use Rattle.tables.specs.Columns.{Places, Ranks}
 use Rattle.store.specs.Store.{committed}

@@ -1,26 +1,25 @@
 -- The answer is the one on what is committed; where it is Added, the three keys are in the table and each column has the new row.
-use Prim.Native.Nat.{ℕ, _+_, _*_, _≤_, _<_}
+use Prim.Native.Nat.{ℕ, _+_}
 use mathlib.Core.Path.{_≡_, refl, sym, ap, _∙_}
-use mathlib.Core.Bool.{Bool, not, cond}
+use mathlib.Core.Bool.{not}
 use mathlib.Core.List.{List, [], _∷_}
 use native.Mathlib.Omega.{arith}
 use lib.ListN.{length, take, drop, set}
 use lib.Dec.{eqb}
 use denote.Ref.{now}
-use Rattle.keyline.specs.Power.{rankOf}
-use Rattle.runs.specs.Bytes.{Bytes, runLength, runAt}
-use Rattle.keyline.specs.Limits.{keyLength, keyLimit, delegationLimit}
+use Rattle.runs.specs.Bytes.{Bytes}
+use Rattle.keyline.specs.Limits.{keyLength, delegationLimit}
 use Rattle.tables.specs.Committed.{Delegation}
-use Rattle.tables.specs.Insertion.{Seen, delegationFrom, delegationAnswer, delegationAdded, readRank, readDelegation, withDelegation}
+use Rattle.tables.specs.Insertion.{Seen, delegationFrom, delegationAnswer, delegationAdded, withDelegation}
 use Rattle.tables.specs.Look.{delegationThere}
-use Rattle.store.specs.Store.{committed, GoodStore}
+use Rattle.store.specs.Store.{committed}
 use Rattle.store.specs.declared.Store.{Store}
 use Rattle.tables.proofs.PayloadLaws.{Parts, parts}
 use Rattle.store.proofs.ViewLaws.{row-fits}
 use Rattle.store.proofs.AnswerLaws.{DelegationAdded, delegation-added, delegation-seen}
 use Rattle.store.proofs.KeyLaws.{KeyRoom, can-intern, rest-room, three-keys, first-stands, second-stands, third-stands}
 use Rattle.store.proofs.NextLaws.{DelegationPushed, delegation-next, delegation-good}
-use Rattle.store.proofs.InsertionLaws.{is-added, kept-law, added-law, room-for, key-room, citedColumn, cited-long, cited-before, cited-here}
+use Rattle.store.proofs.InsertionLaws.{is-added, kept-law, added-law, room-for, key-room, cited-long, cited-before, cited-here}
 use borrow.Author.Needs.{needs}
 use Rattle.store.proofs.insert_delegation.Statement.{statement}
 use Rattle.store.proofs.insert_delegation.Tie as tie

@@ -1,17 +1,14 @@
 -- The answer is the one on what is committed; where it is Added, each table has the new row.
-use Prim.Native.Nat.{ℕ, _+_, _*_, _≤_, _<_}
-use mathlib.Core.Path.{_≡_, refl, sym, ap, _∙_}
-use mathlib.Core.List.{List, [], _∷_}
+use Prim.Native.Nat.{_+_}
+use mathlib.Core.Path.{_≡_, refl, sym, _∙_}
+use mathlib.Core.List.{[], _∷_}
 use native.Mathlib.Omega.{arith}
-use lib.ListN.{length}
 use denote.Ref.{now}
-use Rattle.runs.specs.Bytes.{Bytes, runLength, runAt}
-use Rattle.runs.specs.declared.table.Interned.{Interned}
-use Rattle.keyline.specs.Limits.{keyLimit, revocationLimit}
+use Rattle.keyline.specs.Limits.{revocationLimit}
 use Rattle.tables.specs.Committed.{Revocation}
 use Rattle.tables.specs.Insertion.{Seen, revocationFrom, revocationAnswer, revocationAdded}
 use Rattle.tables.specs.Look.{revocationThere}
-use Rattle.store.specs.Store.{committed, GoodStore}
+use Rattle.store.specs.Store.{committed}
 use Rattle.store.specs.declared.Store.{Store}
 use Rattle.store.proofs.ViewLaws.{revocation-fits}
 use Rattle.store.proofs.AnswerLaws.{RevocationAdded, revocation-added, revocation-seen}

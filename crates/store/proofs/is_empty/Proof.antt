@@ -1,4 +1,3 @@
-use mathlib.Core.Path.{refl}
 use Rattle.store.proofs.ViewLaws.{length-is}
 use borrow.Author.Needs.{needs}
 use Rattle.store.proofs.is_empty.Statement.{statement}

@@ -1,5 +1,4 @@
-use mathlib.Core.Path.{_≡_, sym, ap, _∙_}
-use Rattle.tables.specs.Insertion.{readRank}
+use mathlib.Core.Path.{sym, _∙_}
 use borrow.Author.Needs.{needs}
 use Rattle.store.proofs.rank_of.Statement.{statement}
 use Rattle.store.proofs.rank_of.Tie as tie

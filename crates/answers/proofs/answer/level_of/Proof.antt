@@ -1,5 +1,5 @@
 -- `answers::level_of` meets its contract: each test settles the byte, and the byte settles the level.
-use Prim.Native.Nat.{ℕ, suc, _≤_}
+use Prim.Native.Nat.{ℕ, _≤_}
 use mathlib.Core.Path.{_≡_, subst, sym}
 use native.Mathlib.Omega.{arith}
 use Rattle.rules.specs.Rows.{levelOf}

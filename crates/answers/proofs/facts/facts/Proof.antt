@@ -1,5 +1,5 @@
 -- `facts::facts` meets its contract: the columns are the tables' own.
-use mathlib.Core.Path.{_≡_, refl}
+use mathlib.Core.Path.{refl}
 use native.Mathlib.Omega.{arith}
 use borrow.Author.Needs.{needs}
 use Rattle.answers.proofs.facts.facts.Statement.{statement}

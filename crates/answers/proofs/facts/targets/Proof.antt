@@ -1,6 +1,6 @@
 -- `facts::targets` meets its contract. The loop's invariant: the first j entries are the places of the first j runs.
 use Prim.Native.Nat.{ℕ, _+_, _*_, _-_, _≤_, _<_}
-use mathlib.Core.Path.{_≡_, refl, sym, _∙_, ap, subst}
+use mathlib.Core.Path.{_≡_, refl, _∙_, ap}
 use mathlib.Core.List.{List}
 use native.Mathlib.Decide.{decLt}
 use native.Mathlib.Omega.{arith}
@@ -9,7 +9,7 @@ use lib.ListN.{length, getD, take, drop, length-set, set}
 use lib.Seq.{getD-set-same, getD-set-other}
 use Rattle.runs.specs.Bytes.{runLength, runAt}
 use Rattle.runs.specs.Members.{place}
-use Rattle.runs.specs.Table.{runs, GoodRuns}
+use Rattle.runs.specs.Table.{runs}
 use Rattle.runs.proofs.MemberLaws.{place-le}
 use Rattle.runs.proofs.TableLaws.{runs-long}
 use Rattle.keyline.specs.Limits.{delegationLimit, revocationLimit}

@@ -1,12 +1,12 @@
 -- `marks::in_nodes` meets its contract. The loop's invariant: the first d marks are right.
-use Prim.Native.Nat.{ℕ, _+_, _-_, _≤_, _<_}
-use mathlib.Core.Path.{_≡_, refl, sym, _∙_, ap, subst}
+use Prim.Native.Nat.{_-_, _≤_}
+use mathlib.Core.Path.{_≡_, refl, _∙_, ap, subst}
 use native.Mathlib.Omega.{arith}
 use lib.Dec.{eqb}
 use denote.Ref.{now}
 use Rattle.keyset.specs.Word.{bit}
 use Rattle.keyline.specs.Limits.{delegationLimit}
-use lib.ListN.{length, getD}
+use lib.ListN.{getD}
 use Rattle.answers.specs.Marks.{InNodes}
 use Rattle.answers.proofs.Filling.{marks-none, marks-set}
 use Rattle.answers.proofs.marks.in_nodes.Statement.{statement}

@@ -1,5 +1,4 @@
 -- `marks::is_member` meets its contract.
-use mathlib.Core.Path.{_≡_}
 use borrow.Author.Tests.{eq-eqb, ne-eqb}
 use Rattle.answers.specs.Marks.{isMember}
 use Rattle.answers.proofs.marks.is_member.Statement.{statement}

@@ -1,6 +1,6 @@
 -- `marks::letter` meets its contract: each test settles the byte.
 use Prim.Native.Nat.{ℕ, zero, suc, pred, _≤_, _<_}
-use mathlib.Core.Path.{_≡_, refl, sym, ap, subst}
+use mathlib.Core.Path.{_≡_, refl}
 use native.Mathlib.Omega.{arith}
 use borrow.Author.Tests.{ne-eqb}
 use Rattle.tables.specs.Columns.{powerOf}

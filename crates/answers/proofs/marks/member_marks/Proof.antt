@@ -1,9 +1,9 @@
 -- `marks::member_marks` meets its contract. The loop's invariant: the first x marks are right.
-use Prim.Native.Nat.{ℕ, _+_, _-_, _≤_, _<_}
-use mathlib.Core.Path.{_≡_, refl, sym, _∙_, ap, subst}
+use Prim.Native.Nat.{_-_, _≤_}
+use mathlib.Core.Path.{_≡_, refl, subst}
 use native.Mathlib.Omega.{arith}
 use denote.Ref.{now}
-use lib.ListN.{length, getD}
+use lib.ListN.{getD}
 use Rattle.keyline.specs.Limits.{keyLimit}
 use Rattle.answers.specs.Marks.{isMember, MemberMarks}
 use Rattle.answers.proofs.Filling.{marks-none, marks-set}

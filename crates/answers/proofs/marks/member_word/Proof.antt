@@ -1,10 +1,8 @@
 -- `marks::member_word` meets its contract. The loop's invariant: the word has the members among the keys looked at.
-use Prim.Native.Nat.{ℕ, _+_, _-_, _≤_, _<_}
-use mathlib.Core.Path.{_≡_, refl, sym, _∙_, ap, subst}
+use Prim.Native.Nat.{_-_, _≤_}
+use mathlib.Core.Path.{_≡_, sym, _∙_, subst}
 use native.Mathlib.Omega.{arith}
 use denote.Ref.{now}
-use lib.ListN.{length, getD}
-use borrow.Author.Tests.{not-false}
 use Rattle.answers.specs.Marks.{MemberWord}
 use Rattle.answers.proofs.Filling.{word-none, word-same, word-with}
 use Rattle.answers.proofs.marks.member_word.Statement.{statement}

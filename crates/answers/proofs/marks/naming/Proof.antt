@@ -1,12 +1,12 @@
 -- `marks::naming` meets its contract. The loop's invariant: the first j marks are right.
-use Prim.Native.Nat.{ℕ, _+_, _-_, _≤_, _<_}
-use mathlib.Core.Path.{_≡_, refl, sym, _∙_, ap, subst}
+use Prim.Native.Nat.{_-_, _≤_}
+use mathlib.Core.Path.{_≡_, refl, _∙_, ap, subst}
 use native.Mathlib.Omega.{arith}
 use lib.Dec.{ltb}
 use mathlib.Core.Bool.{false, cond}
 use denote.Ref.{now}
 use Rattle.keyline.specs.Limits.{revocationLimit}
-use lib.ListN.{length, getD}
+use lib.ListN.{getD}
 use Rattle.answers.specs.Marks.{Naming}
 use Rattle.answers.proofs.Filling.{marks-none, marks-set}
 use Rattle.answers.proofs.marks.naming.Statement.{statement}

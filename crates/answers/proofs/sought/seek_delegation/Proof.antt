@@ -1,5 +1,4 @@
 -- `sought::seek_delegation` meets its contract: each test settles the case.
-use mathlib.Core.Path.{_≡_}
 use borrow.Author.Needs.{needs}
 use denote.Ref.{now}
 use Rattle.keyline.specs.Limits.{delegationLimit}

@@ -1,6 +1,5 @@
 -- `sought::seek_pair` meets its contract: each test settles the case.
-use Prim.Native.Nat.{ℕ}
-use mathlib.Core.Path.{_≡_, refl, sym, _∙_, ap, subst}
+use mathlib.Core.Path.{_≡_, sym, _∙_}
 use mathlib.Core.Bool.{Bool, true, false, false≢true}
 use borrow.Author.Needs.{needs}
 use denote.Ref.{now}

@@ -1,11 +1,11 @@
 -- `coverage::members::reached` meets its contract. The loop's invariant: of the members that are no longer left, w has those whose delegation's issuer was found.
 use borrow.Author.Needs.{needs}
 use Prim.Native.Nat.{ℕ, _<_}
-use mathlib.Core.Path.{_≡_, ap, _∙_}
+use mathlib.Core.Path.{ap, _∙_}
 use native.Mathlib.Omega.{arith}
 use denote.Ref.{now}
 use lib.ListN.{getD}
-use Rattle.keyset.specs.Word.{bit, size}
+use Rattle.keyset.specs.Word.{size}
 use Rattle.places.specs.Limits.{delegationLimit, revocationLimit}
 use Rattle.search.specs.Sets.{Says}
 use Rattle.search.specs.Levels.{On}

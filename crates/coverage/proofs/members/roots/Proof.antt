@@ -1,7 +1,7 @@
 -- `coverage::members::roots` meets its contract. The loop's invariant: w has the subjects of those that are no longer left.
 use borrow.Author.Needs.{needs}
 use Prim.Native.Nat.{ℕ, _<_}
-use mathlib.Core.Path.{_≡_, sym, ap, _∙_, subst}
+use mathlib.Core.Path.{_≡_, sym, ap, _∙_}
 use native.Mathlib.Omega.{arith}
 use denote.Ref.{now}
 use lib.ListN.{getD}

@@ -1,6 +1,6 @@
 -- `coverage::positive::subjects` meets its contract. The loop's invariant: w has the subjects of the first d delegations.
 use borrow.Author.Needs.{needs}
-use Prim.Native.Nat.{ℕ, _≤_, _-_}
+use Prim.Native.Nat.{_≤_, _-_}
 use mathlib.Core.Path.{_≡_, sym, _∙_}
 use native.Mathlib.Omega.{arith}
 use lib.ListN.{getD}

@@ -1,6 +1,6 @@
 -- `evaluation::conveyed::conveyed_power` meets its contract.
-use Prim.Native.Nat.{ℕ, _<_, min}
-use mathlib.Core.Path.{_≡_, sym, ap, subst, _∙_}
+use Prim.Native.Nat.{ℕ, _<_}
+use mathlib.Core.Path.{sym, subst}
 use native.Mathlib.Omega.{arith}
 use lib.ListN.{getD}
 use Rattle.places.specs.Limits.{keyLimit, delegationLimit}

@@ -1,6 +1,5 @@
 -- `evaluation::levels::levels` meets its contract: one search with nobody excluded, by the final grades.
 use mathlib.Core.Path.{refl}
-use denote.Ref.{now}
 use Rattle.search.proofs.Laws.Complete.{sound-zeros}
 use Rattle.coverage.proofs.Laws.Seek.{seen, ready, found-over, found-less}
 use Rattle.caps.proofs.Laws.Caps.{grades-live}

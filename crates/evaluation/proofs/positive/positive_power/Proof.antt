@@ -1,5 +1,4 @@
 -- `evaluation::positive::positive_power` meets its contract: a subject's was found; over another key only the key itself stands.
-use Prim.Native.Nat.{suc}
 use mathlib.Core.Path.{sym, subst}
 use native.Mathlib.Omega.{arith}
 use Rattle.rules.specs.Rules.{PositiveIs}

@@ -1,8 +1,6 @@
 -- Every row is marked, in both tables.
-use Prim.Native.Nat.{ℕ, _≤_, _<_}
-use mathlib.Core.Path.{_≡_, refl, sym, ap, _∙_}
+use mathlib.Core.Path.{_≡_, refl, sym}
 use native.Mathlib.Omega.{arith}
-use denote.Ref.{now}
 use Rattle.keyline.specs.Limits.{delegationLimit, revocationLimit}
 use Rattle.tables.specs.Columns.{delegationAt, revocationAt}
 use Rattle.store.specs.Store.{committed}

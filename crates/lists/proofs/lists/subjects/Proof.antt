@@ -1,8 +1,6 @@
 -- The keys are marked that the column of subjects names.
-use Prim.Native.Nat.{ℕ, _≤_, _<_}
-use mathlib.Core.Path.{_≡_, refl, sym, ap, _∙_}
+use mathlib.Core.Path.{_≡_, refl, sym}
 use native.Mathlib.Omega.{arith}
-use denote.Ref.{now}
 use Rattle.keyline.specs.Limits.{keyLimit}
 use Rattle.tables.specs.Columns.{delegationAt}
 use Rattle.store.specs.Store.{committed}

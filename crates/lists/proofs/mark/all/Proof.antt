@@ -1,4 +1,3 @@
-use Prim.Native.Nat.{ℕ, _<_}
 use mathlib.Core.Path.{refl}
 use mathlib.Core.Bool.{true, false}
 use lib.ListN.{getD-replicate}

@@ -1,4 +1,3 @@
-use mathlib.Core.Path.{_≡_, refl}
 use borrow.Author.Tests.{eq-eqb, ne-eqb}
 use Rattle.lists.proofs.mark.is_between.Statement.{statement}
 use Rattle.lists.proofs.mark.is_between.Tie as tie

@@ -1,13 +1,12 @@
 -- The marks before i say whether their revocations name the target.
-use Prim.Native.Nat.{ℕ, _+_, _-_, _*_, _≤_, _<_}
-use mathlib.Core.Path.{_≡_, refl, sym, _∙_}
-use mathlib.Core.Bool.{Bool, false}
+use Prim.Native.Nat.{ℕ, _-_, _≤_, _<_}
+use mathlib.Core.Path.{_≡_, refl}
+use mathlib.Core.Bool.{false}
 use native.Mathlib.Omega.{arith}
-use native.Mathlib.Nat.{le-antisymm}
 use lib.ListN.{length, getD, length-set}
 use borrow.Author.Count.{below-none}
 use denote.Ref.{now}
-use Rattle.runs.specs.Bytes.{runLength, runAt, eqBytes}
+use Rattle.runs.specs.Bytes.{runAt, eqBytes}
 use Rattle.keyline.specs.Limits.{revocationLimit}
 use Rattle.lists.proofs.MarkLaws.{marked-more}
 use Rattle.lists.proofs.mark.naming.Statement.{statement}

@@ -1,16 +1,12 @@
 -- The second list stands behind the first.
-use Prim.Native.Nat.{ℕ, _+_, _-_, _*_, _≤_}
-use mathlib.Core.Path.{_≡_, refl, sym, ap, _∙_}
-use mathlib.Core.List.{map, _++_}
+use Prim.Native.Nat.{_*_}
+use mathlib.Core.Path.{refl}
 use native.Mathlib.Omega.{arith}
-use lib.ListN.{length, take, drop, length-take, length-drop}
 use borrow.Author.Tests.{lt-ltb, le-ltb}
-use borrow.Rule.Slice.PartMut.{putMid}
 use denote.Ref.{now}
-use Rattle.keyline.specs.Bytes.{front}
-use Rattle.runs.specs.Bytes.{Bytes, runLength, runAt, joined}
+use Rattle.runs.specs.Bytes.{runLength, joined}
 use Rattle.lists.specs.Lists.{bothAnswer}
-use Rattle.lists.specs.Marks.{chosenRuns, Stand}
+use Rattle.lists.specs.Marks.{chosenRuns}
 use Rattle.lists.proofs.WriteLaws.{chosen-long, joined-chosen, behind}
 use borrow.Author.Needs.{needs}
 use Rattle.lists.proofs.write.write_both.Statement.{statement}

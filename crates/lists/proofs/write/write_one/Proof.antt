@@ -1,15 +1,8 @@
-use Prim.Native.Nat.{ℕ, _+_, _*_, _≤_}
-use mathlib.Core.Path.{_≡_, refl, sym, ap, _∙_}
-use mathlib.Core.List.{map}
+use mathlib.Core.Path.{refl}
 use native.Mathlib.Omega.{arith}
-use lib.ListN.{length, take, length-map}
-use lib.Seq.{length-take-le}
 use borrow.Author.Tests.{lt-ltb, le-ltb}
 use denote.Ref.{now}
-use Rattle.runs.specs.Bytes.{Bytes, runLength, runAt}
-use Rattle.runs.specs.declared.list.Chosen.{Chosen}
 use Rattle.lists.specs.Lists.{listAnswer}
-use Rattle.lists.specs.Marks.{chosenRuns, Stand}
 use Rattle.lists.proofs.WriteLaws.{chosen-long}
 use borrow.Author.Needs.{needs}
 use Rattle.lists.proofs.write.write_one.Statement.{statement}

@@ -1,20 +1,13 @@
 -- What is found is the delegation with that digest.
-use Prim.Native.Nat.{ℕ, _<_}
-use mathlib.Core.Path.{_≡_, refl, sym, ap, _∙_}
-use mathlib.Core.Bool.{Bool, true, false}
-use lib.ListN.{length}
+use mathlib.Core.Path.{_≡_, refl, sym, _∙_}
+use mathlib.Core.Bool.{true, false}
 use borrow.Author.Tests.{lt-ltb, le-ltb}
 use denote.Ref.{now}
-use Rattle.keyline.specs.Bytes.{front}
-use Rattle.runs.specs.Bytes.{Bytes, runAt}
 use Rattle.runs.specs.Members.{has}
-use Rattle.tables.specs.Committed.{Delegation, delegationDigests, delegationWith, payloadOf}
-use Rattle.tables.specs.Columns.{rowAt, delegationAt}
-use Rattle.tables.specs.Look.{rowThere}
+use Rattle.tables.specs.Committed.{delegationDigests, delegationWith}
+use Rattle.tables.specs.Columns.{delegationAt}
 use Rattle.store.specs.Store.{committed}
-use Rattle.tables.specs.declared.delegations.DelegationRow.{DelegationRow}
 use Rattle.store.proofs.ViewLaws.{delegation-found, delegation-is, row-fits}
-use Rattle.lookups.specs.Lookup.{partsAnswer, partBuffer, lookAnswer, delegationLookup}
 use Rattle.lookups.proofs.LookLaws.{look-bad, look-absent, look-there}
 use borrow.Author.Needs.{needs}
 use Rattle.lookups.proofs.lookup.delegation.Statement.{statement}

@@ -1,11 +1,8 @@
 -- What is found is the revocation with that digest.
-use Prim.Native.Nat.{ℕ, _<_}
-use mathlib.Core.Path.{_≡_, refl, sym, ap, _∙_}
-use mathlib.Core.Bool.{Bool, true, false}
-use lib.ListN.{length}
+use mathlib.Core.Path.{_≡_, refl, sym, _∙_}
+use mathlib.Core.Bool.{true, false}
 use borrow.Author.Tests.{lt-ltb, le-ltb}
 use denote.Ref.{now}
-use Rattle.runs.specs.Bytes.{Bytes, runAt}
 use Rattle.runs.specs.Members.{has}
 use Rattle.tables.specs.Committed.{revocationDigests, revocationWith}
 use Rattle.tables.specs.Columns.{revocationAt}

@@ -1,10 +1,7 @@
 -- The writer is handed the parts, and has room.
-use Prim.Native.Nat.{_+_, _-_, _*_}
-use mathlib.Core.Path.{refl, sym, ap, _∙_}
+use mathlib.Core.Path.{_∙_}
 use native.Mathlib.Omega.{arith}
-use lib.ListN.{length}
 use denote.Ref.{now}
-use Rattle.runs.specs.Bytes.{Bytes, runAt}
 use Rattle.runs.proofs.ByteLaws.{run-part}
 use Rattle.lookups.proofs.LookLaws.{cited-part, cited-le, payload-put}
 use borrow.Author.Needs.{needs}

@@ -1,7 +1,7 @@
-use mathlib.Core.Path.{_≡_, refl, sym}
+use mathlib.Core.Path.{refl, sym}
 use lib.ListN.{length}
 use denote.Ref.{now}
-use Rattle.runs.specs.Bytes.{runLength, runAt}
+use Rattle.runs.specs.Bytes.{runAt}
 use Rattle.runs.proofs.ByteLaws.{length-run}
 use Rattle.keyline.specs.Limits.{keyLength, digestLength}
 use Rattle.lookups.proofs.LookLaws.{first-small, second-small, both-fit}

@@ -1,14 +1,11 @@
 -- The front of the buffer comes back as the run.
-use Prim.Native.Nat.{ℕ, _+_, _-_, _*_}
-use mathlib.Core.Path.{_≡_, refl, ap, _∙_}
-use mathlib.Core.List.{[], _++_}
+use mathlib.Core.Path.{_≡_, refl, _∙_}
+use mathlib.Core.List.{[]}
 use native.Mathlib.Omega.{arith}
-use lib.ListN.{length}
 use denote.Ref.{now}
-use borrow.Rule.Slice.PartMut.{putMid}
 use Rattle.keyline.specs.Bytes.{front}
 use Rattle.keyline.proofs.Fronts.{front-none}
-use Rattle.runs.specs.Bytes.{Bytes, runLength, runAt}
+use Rattle.runs.specs.Bytes.{runLength, runAt}
 use Rattle.runs.proofs.ByteLaws.{length-run, run-part}
 use Rattle.runs.proofs.ListLaws.{front-mid}
 use borrow.Author.Needs.{needs}

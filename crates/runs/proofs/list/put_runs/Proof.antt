@@ -1,10 +1,10 @@
 -- The runs before j stand at the front, and each is lent its own part of the buffer behind them.
-use Prim.Native.Nat.{ℕ, zero-le, _+_, _-_, _*_, _≤_, _<_}
+use Prim.Native.Nat.{ℕ, _+_, _-_, _*_, _≤_, _<_}
 use mathlib.Core.Path.{_≡_, refl, sym, ap, _∙_}
-use mathlib.Core.List.{List, [], _∷_, _++_, map}
+use mathlib.Core.List.{List, [], map}
 use native.Mathlib.Omega.{arith}
 use native.Mathlib.Nat.{le-antisymm}
-use lib.ListN.{length, take, drop, getD, length-take, length-drop, length-map}
+use lib.ListN.{length, take, getD, length-take, length-drop, length-map}
 use lib.Seq.{length-take-le, getD-take}
 use borrow.Rule.Slice.PartMut.{putMid}
 use denote.Ref.{now}

@@ -1,10 +1,6 @@
 -- A run that the table has stands where it was found; another is pushed.
-use Prim.Native.Nat.{ℕ, _+_, _≤_, _<_}
-use mathlib.Core.Path.{_≡_, sym}
 use native.Mathlib.Omega.{arith}
 use denote.Ref.{now}
-use Rattle.runs.specs.Members.{place}
-use Rattle.runs.specs.Table.{runs}
 use Rattle.runs.proofs.TableLaws.{held-law, room-law, new-law}
 use borrow.Author.Needs.{needs}
 use Rattle.runs.proofs.table.intern.Statement.{statement}

@@ -1,12 +1,10 @@
 -- The order makes room for the place n at the run's spot, and the run goes to place n.
-use Prim.Native.Nat.{ℕ, _+_, _-_, _*_, _≤_, _<_}
-use mathlib.Core.Path.{_≡_, sym, ap, _∙_}
+use Prim.Native.Nat.{_+_, _-_, _*_, _≤_}
+use mathlib.Core.Path.{_≡_}
 use native.Mathlib.Omega.{arith}
-use lib.ListN.{length}
 use denote.Ref.{now}
-use Rattle.runs.specs.Bytes.{Bytes, runLength}
-use Rattle.runs.specs.Table.{Room}
-use Rattle.runs.proofs.TableLaws.{spot-within, shifted-long, push-law}
+use Rattle.runs.specs.Bytes.{runLength}
+use Rattle.runs.proofs.TableLaws.{spot-within, push-law}
 use borrow.Author.Needs.{needs}
 use Rattle.runs.proofs.table.push.Statement.{statement}
 use Rattle.runs.proofs.table.push.Tie as tie

@@ -1,10 +1,9 @@
 -- The run's spot lies between low and high; the run in the middle of the order says on which side.
-use Prim.Native.Nat.{ℕ, zero-le, _+_, _-_, _/_, _*_, _≤_, _<_}
-use mathlib.Core.Path.{_≡_, sym, _∙_}
+use Prim.Native.Nat.{zero-le, _+_, _-_, _/_, _≤_}
+use mathlib.Core.Path.{sym, _∙_}
 use native.Mathlib.Omega.{arith}
 use native.Mathlib.Nat.{le-antisymm}
 use denote.Ref.{now}
-use Rattle.runs.specs.Bytes.{runLength}
 use Rattle.runs.specs.Sorted.{sorted, spot}
 use Rattle.runs.specs.Table.{runs}
 use Rattle.runs.proofs.TableLaws.{spot-within, there-fits, there-above, there-not}

@@ -1,14 +1,13 @@
 -- What lies behind i has moved up: it is put one byte further on.
 use Prim.Native.Nat.{ℕ, _+_, _-_, _≤_, _<_}
 use mathlib.Core.Path.{_≡_, refl, sym, ap, _∙_}
-use mathlib.Core.List.{List, _∷_}
 use native.Mathlib.Omega.{arith}
 use native.Mathlib.Nat.{le-antisymm}
 use lib.ListN.{length, take, drop, getD, set, length-set, length-take, length-drop}
 use denote.Ref.{now}
 use Rattle.keyline.specs.Bytes.{put}
 use Rattle.runs.specs.Bytes.{Bytes}
-use Rattle.runs.proofs.PartLaws.{put-none, length-put, set-put, part-more, byte-before}
+use Rattle.runs.proofs.PartLaws.{put-none, set-put, part-more, byte-before}
 use Rattle.runs.proofs.table.shift.Statement.{statement}
 use Rattle.runs.proofs.table.shift.Tie as tie
 

@@ -1,6 +1,5 @@
 -- The room that was lent is the part that comes back.
 use denote.Ref.{now}
-use lib.ListN.{length}
 use native.Mathlib.Omega.{arith}
 use Rattle.script.proofs.Parts.{evaluated-back}
 use borrow.Author.Needs.{needs}

@@ -3,7 +3,7 @@ use Prim.Native.Nat.{_-_}
 use native.Mathlib.Omega.{arith}
 use lib.ListN.{length, length-drop}
 use denote.Ref.{now}
-use Rattle.script.proofs.Measuring.{Measuring, start, step-facts, told, go-on, all-read, no-request, rest-lent}
+use Rattle.script.proofs.Measuring.{Measuring, start, step-facts, told, go-on, all-read, no-request}
 use borrow.Author.Needs.{needs}
 use Rattle.script.proofs.run.measure.Statement.{statement}
 use Rattle.script.proofs.run.measure.Tie as tie

@@ -4,7 +4,7 @@ use Prim.Native.Nat.{ℕ, _≤_, _<_, _-_}
 use mathlib.Core.Path.{_≡_, sym, subst}
 use native.Mathlib.Omega.{arith}
 use denote.Ref.{now}
-use Rattle.places.specs.Limits.{keyLimit, delegationLimit}
+use Rattle.places.specs.Limits.{keyLimit}
 use Rattle.search.specs.Index.{Indexed}
 use Rattle.search.proofs.Laws.Chain.{Indexing, indexing-none, indexing-more}
 use Rattle.search.proofs.edges.index.Statement.{statement}

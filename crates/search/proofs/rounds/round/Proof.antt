@@ -1,5 +1,5 @@
 -- `search::rounds::round` meets its contract. The loop's invariant: what the passes so far have done (`Passed`).
-use mathlib.Core.Path.{_≡_, subst}
+use mathlib.Core.Path.{subst}
 use native.Mathlib.Omega.{arith}
 use Prim.Native.Nat.{ℕ}
 use denote.Ref.{now}

@@ -1,6 +1,6 @@
 -- `search::rounds::waiting` meets its contract. The loop's invariant: of the roots that are no longer left, w has those over which r stands.
 use borrow.Author.Needs.{needs}
-use Prim.Native.Nat.{ℕ, _+_, _*_, _<_}
+use Prim.Native.Nat.{ℕ, _+_, _*_}
 use mathlib.Core.Path.{_≡_, sym, _∙_, ap}
 use native.Mathlib.Omega.{arith}
 use denote.Ref.{now}

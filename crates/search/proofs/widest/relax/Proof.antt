@@ -1,5 +1,5 @@
 -- `search::widest::relax` meets its contract: the audience joins one word, unless it is excluded or the delegation is not usable.
-use Prim.Native.Nat.{ℕ, _<_, _-_, min, pred}
+use Prim.Native.Nat.{_<_, _-_, min, pred}
 use mathlib.Core.Path.{_≡_, sym, ap, _∙_}
 use native.Mathlib.Omega.{arith}
 use native.Mathlib.Decide.{ℕ-discrete}

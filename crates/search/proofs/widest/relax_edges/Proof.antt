@@ -1,10 +1,9 @@
 -- `search::widest::relax_edges` meets its contract. The loop's invariant: the pair's delegations from next on are relaxed, and next is one of the pair's, or 0.
 use borrow.Author.Needs.{needs}
-use Prim.Native.Nat.{ℕ, _≤_, _<_, _-_}
-use mathlib.Core.Path.{_≡_, sym, subst, _∙_}
+use Prim.Native.Nat.{ℕ, _<_, _-_}
+use mathlib.Core.Path.{_≡_, sym, subst}
 use native.Mathlib.Omega.{arith}
 use denote.Ref.{now}
-use lib.ListN.{getD}
 use Rattle.places.specs.Limits.{delegationLimit}
 use Rattle.search.specs.Graph.{Graph, graph}
 use Rattle.search.specs.Index.{Last}

@@ -1,13 +1,13 @@
 -- `search::widest::widest` meets its contract. The loop's invariant is the walk's (Laws/Walk.antt); a turn expands a key or ends a level.
 use borrow.Author.Needs.{needs}
-use Prim.Native.Nat.{ℕ, _≤_, _+_, _*_, _-_, suc, min}
-use mathlib.Core.Path.{_≡_, refl, sym, ap, _∙_, subst}
+use Prim.Native.Nat.{ℕ, _+_, _-_, suc, min}
+use mathlib.Core.Path.{_≡_, sym, ap, _∙_, subst}
 use native.Mathlib.Omega.{arith}
 use denote.Ref.{now}
-use lib.ListN.{length, getD, set}
+use lib.ListN.{getD}
 use Rattle.keyset.specs.Word.{bit, size}
 use Rattle.keyset.proofs.Laws.{size-le}
-use Rattle.places.specs.Limits.{keyLimit, levelCount}
+use Rattle.places.specs.Limits.{keyLimit}
 use Rattle.search.specs.Graph.{Graph, graph}
 use Rattle.search.specs.Walk.{In}
 use Rattle.search.proofs.Laws.Above.{one-less}

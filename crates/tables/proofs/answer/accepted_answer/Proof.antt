@@ -1,8 +1,7 @@
 -- Each test settles a step of the answer.
-use mathlib.Core.Path.{_≡_, refl, sym, ap, _∙_}
-use mathlib.Core.List.{List, [], _∷_}
+use mathlib.Core.Path.{sym, _∙_}
+use mathlib.Core.List.{[], _∷_}
 use native.Mathlib.Omega.{arith}
-use lib.ListN.{length}
 use borrow.Author.Tests.{lt-ltb, le-ltb}
 use denote.Ref.{now}
 use Rattle.runs.proofs.ByteLaws.{length-run}
@@ -10,7 +9,7 @@ use Rattle.runs.proofs.TableLaws.{runs-long}
 use Rattle.runs.proofs.FreshLaws.{fresh-le}
 use Rattle.runs.specs.Table.{runs}
 use Rattle.keyline.specs.Limits.{keyLimit, delegationLimit}
-use Rattle.tables.specs.Insertion.{acceptedAnswer, heldAnswer, keysAnswer}
+use Rattle.tables.specs.Insertion.{acceptedAnswer, keysAnswer}
 use Rattle.tables.specs.Look.{rowThere, argument}
 use Rattle.tables.proofs.ContentLaws.{content-parts}
 use borrow.Author.Needs.{needs}

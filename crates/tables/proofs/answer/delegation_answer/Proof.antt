@@ -1,13 +1,11 @@
 -- The lengths, the payload, and then the rest.
-use Prim.Native.Nat.{ℕ, _≤_}
-use mathlib.Core.Path.{_≡_, refl, sym, ap, _∙_}
+use mathlib.Core.Path.{_≡_, refl, sym, _∙_}
 use native.Mathlib.Omega.{arith}
-use lib.ListN.{length}
 use borrow.Author.Tests.{eq-eqb, ne-eqb}
 use denote.Ref.{now}
-use Rattle.codec.specs.Delegation.{decoded, citationOf}
+use Rattle.codec.specs.Delegation.{decoded}
 use Rattle.codec.specs.declared.delegation.Decoded.the-variants as reading
-use Rattle.tables.specs.Insertion.{delegationCheck, acceptedAnswer, keysAnswer, delegationFrom, Seen}
+use Rattle.tables.specs.Insertion.{delegationCheck, acceptedAnswer, keysAnswer, Seen}
 use Rattle.tables.specs.Committed.{Delegation, sameContent}
 use Rattle.tables.specs.Look.{argument}
 use Rattle.keyline.specs.declared.power.Power.{Power}

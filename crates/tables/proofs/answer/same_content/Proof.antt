@@ -1,7 +1,6 @@
 -- The first part that differs settles it.
-use mathlib.Core.Path.{_≡_, sym, ap, _∙_}
+use mathlib.Core.Path.{sym, _∙_}
 use borrow.Author.Tests.{not-true, not-false, eq-eqb, ne-eqb}
-use lib.ListN.{length}
 use denote.Ref.{now}
 use Rattle.runs.proofs.ByteLaws.{eq-nil}
 use Rattle.tables.specs.Committed.{sameParts}

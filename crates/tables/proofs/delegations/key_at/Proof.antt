@@ -1,4 +1,4 @@
-use mathlib.Core.Path.{sym, ap}
+use mathlib.Core.Path.{ap}
 use lib.ListN.{List·getD-eq-default}
 use denote.Ref.{now}
 use Rattle.tables.specs.Columns.{keyPlace}

@@ -1,4 +1,3 @@
-use mathlib.Core.Path.{_≡_, sym, ap, _∙_}
 use denote.Ref.{now}
 use Rattle.runs.proofs.TableLaws.{has-place}
 use Rattle.keyline.specs.Limits.{keyLimit}

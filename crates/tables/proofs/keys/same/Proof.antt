@@ -1,5 +1,4 @@
-use Prim.Native.Nat.{ℕ}
-use mathlib.Core.Path.{_≡_, sym, ap, _∙_}
+use mathlib.Core.Path.{ap, _∙_}
 use denote.Ref.{now}
 use Rattle.runs.specs.Bytes.{Bytes, eqBytes}
 use Rattle.runs.proofs.ByteLaws.{run-whole}

@@ -1,5 +1,4 @@
 -- Which group the byte is of.
-use mathlib.Core.Path.{sym, _∙_}
 use borrow.Author.Needs.{needs}
 use borrow.Author.Tests.{lt-ltb, le-ltb}
 use Rattle.wire.specs.Operation.{operationOf}

@@ -1,5 +1,5 @@
 -- The checks, in their order.
-use mathlib.Core.Path.{refl, ap, subst}
+use mathlib.Core.Path.{subst}
 use borrow.Author.Tests.{not-true, not-false}
 use Prim.Native.Nat.{_<_}
 use lib.ListN.{length}
