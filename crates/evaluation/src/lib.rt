@@ -3,7 +3,6 @@
 
 pub mod conveyed;
 pub mod levels;
-pub mod live;
 pub mod nodes;
 pub mod positive;
 pub mod standing;

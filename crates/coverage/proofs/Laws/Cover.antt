@@ -15,7 +15,7 @@ use Rattle.rules.proofs.Derivations.Answers.{just}
 use Rattle.rules.proofs.Derivations.Monotone.{stands-top}
 use Rattle.search.specs.Sets.{Word, Among}
 use Rattle.search.specs.Levels.{word, Found}
-use Rattle.search.proofs.Laws.Sets.{zero-at}
+use Rattle.places.proofs.Repeated.{repeated}
 use Rattle.search.proofs.Laws.Answer.{found-only, found-has}
 use Rattle.coverage.specs.Places.{places, Subject, Names}
 use Rattle.coverage.specs.Coverage.{RevokersBy, Shared, Listed, Exclusion, NetIs}
@@ -94,7 +94,7 @@ module _ (e : Facts) (subjects : ℕ) (found : List ℕ) (W : Word subjects (Sub
 
 module _ (revoker target : List ℕ) where
   pub revokers-none : (n : ℕ) → RevokersBy revoker target 0 n (replicate delegationLimit 0)
-  revokers-none n = record { len = refl; is = λ d h. subst (λ (z : ℕ). Word z (Names revoker target 0 d)) (sym (zero-at delegationLimit d)) (any-none _) }
+  revokers-none n = record { len = refl; is = λ d h. subst (λ (z : ℕ). Word z (Names revoker target 0 d)) (sym (repeated {A = ℕ} delegationLimit d 0)) (any-none _) }
 
   module _ (j n : ℕ) (words : List ℕ) (R : RevokersBy revoker target j n words) where
     -- j names the delegation c

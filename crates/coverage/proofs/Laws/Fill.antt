@@ -10,13 +10,13 @@ use Rattle.keyset.specs.Word.{bit}
 use Rattle.keyset.proofs.Laws.{bit-none}
 use Rattle.places.specs.Limits.{delegationLimit}
 use Rattle.search.specs.Sets.{Word}
-use Rattle.search.proofs.Laws.Sets.{zero-at}
+use Rattle.places.proofs.Repeated.{repeated}
 use Rattle.coverage.specs.Arrays.{Any, Below, Filled}
 
 -- ---- an array
 
 pub filled-none : (P : ℕ → ℕ → Type 0) → Filled 0 P (replicate delegationLimit 0)
-filled-none P = record { len = refl; here = λ d h. absurd (omega arith); rest = λ d h. zero-at delegationLimit d }
+filled-none P = record { len = refl; here = λ d h. absurd (omega arith); rest = λ d h. repeated {A = ℕ} delegationLimit d 0 }
 
 pub filled-more : {P : ℕ → ℕ → Type 0} {g : List ℕ} (d v : ℕ) → Filled d P g → d < delegationLimit → P d v → Filled (d + 1) P (set g d v)
 filled-more {P} {g} d v f h p = record {

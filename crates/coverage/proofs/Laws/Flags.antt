@@ -38,9 +38,6 @@ pos-yes n h = ap not (ne-eqb n 0 (λ e. omega arith))
 pub pos-no : (n : ℕ) → 0 < n → eqb n 0 ≡ false
 pos-no n h = ne-eqb n 0 (λ e. omega arith)
 
-pub zero-says : (n : ℕ) → Says (not (eqb n 0)) (0 < n)
-zero-says n = record { yes = non-zero n; no = λ e p. clash (pos-yes n p) e }
-
 -- nobody is in 0
 pub no-bit : (n : ℕ) → bit 0 n ≡ 1 → ⊥
 no-bit n b = let z = bit-none n in omega arith

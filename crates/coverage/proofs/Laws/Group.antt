@@ -10,7 +10,7 @@ use lib.Seq.{getD-set-same, getD-set-other}
 use Rattle.keyset.specs.Word.{bit}
 use Rattle.keyset.proofs.Laws.{bit-none}
 use Rattle.places.specs.Limits.{revocationLimit}
-use Rattle.search.proofs.Laws.Sets.{zero-at}
+use Rattle.places.proofs.Repeated.{repeated}
 use Rattle.coverage.specs.Contexts.{Sought, Grouped, Agreeing}
 
 pub record Grouping (target excluded : List ℕ) (j n count : ℕ) (exclude members : List ℕ) : Type 0 where
@@ -29,7 +29,7 @@ grouping-none target excluded n = record {
   };
   exclude-len = refl;
   members-len = refl;
-  rest = λ c h. zero-at revocationLimit c;
+  rest = λ c h. repeated {A = ℕ} revocationLimit c 0;
 }
 
 module _ (target excluded : List ℕ) (j n count : ℕ) (exclude members : List ℕ) (G : Grouping target excluded j n count exclude members) where

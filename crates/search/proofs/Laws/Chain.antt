@@ -12,7 +12,7 @@ use Rattle.places.specs.Limits.{keyLimit, delegationLimit, levelCount}
 use Rattle.search.specs.Graph.{Graph}
 use Rattle.search.specs.Index.{Last, Indexed, Ready}
 use Rattle.search.specs.Walk.{Grown, Relaxed, Led}
-use Rattle.search.proofs.Laws.Sets.{zero-at}
+use Rattle.places.proofs.Repeated.{repeated}
 use Rattle.search.proofs.Laws.Grow.{grown-none, grown-then}
 
 -- ---- the index
@@ -27,7 +27,7 @@ pub indexing-none : (issuer subject : List ℕ) → Indexing issuer subject 0 (r
 indexing-none issuer subject = record {
   indexed = record {
     issues = λ d h. absurd (omega arith);
-    start = λ r u p q. record { found = λ d e. absurd (let z = zero-at (keyLimit * keyLimit) (r * keyLimit + u) in omega arith); most = λ d h. absurd (omega arith) };
+    start = λ r u p q. record { found = λ d e. absurd (let z = repeated {A = ℕ} (keyLimit * keyLimit) (r * keyLimit + u) 0 in omega arith); most = λ d h. absurd (omega arith) };
     before = λ d h. absurd (omega arith);
   };
   issuers-len = refl;

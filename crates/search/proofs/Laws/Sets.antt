@@ -7,10 +7,11 @@ use native.Mathlib.Decide.{ℕ-discrete, decLt}
 use native.Mathlib.Omega.{arith}
 use borrow.Author.Tests.{eqb-true, eqb-false}
 use lib.Dec.{eqb}
-use lib.ListN.{getD, replicate, length-replicate, getD-replicate, List·getD-eq-default}
+use lib.ListN.{replicate}
 use Rattle.keyset.specs.Word.{bit, size}
 use Rattle.keyset.proofs.Laws.{bit-two, bit-none, bit-high, size-more}
 use Rattle.places.specs.Limits.{keyLimit}
+use Rattle.places.proofs.Repeated.{repeated}
 use Rattle.search.specs.Sets.{Says, Word, Among}
 use Rattle.search.specs.Walk.{In}
 
@@ -43,15 +44,8 @@ place w fits r p = go (decLt r keyLimit)
     go (yes h) = h
     go (no n) = absurd (let e = bit-high 64 w r fits (omega (arith, n)) in omega arith)
 
-pub zero-at : (n m : ℕ) → _≡_ {A = ℕ} (getD (replicate n 0) m 0) 0
-zero-at n m = go (decLt m n)
-  where
-    go : Dec (m < n) → _≡_ {A = ℕ} (getD (replicate n 0) m 0) 0
-    go (yes h) = getD-replicate n m 0 0 h
-    go (no h) = List·getD-eq-default (replicate n 0) 0 (subst (λ (k : ℕ). k ≤ m) (sym (length-replicate n 0)) (let q : n ≤ m = omega (arith, h) in q))
-
 pub none-in : (n m x : ℕ) → In (replicate n 0) m x → ⊥
-none-in n m x p = let e = bit-none x in let f = ap (λ (z : ℕ). bit z x) (zero-at n m) in omega arith
+none-in n m x p = let e = bit-none x in let f = ap (λ (z : ℕ). bit z x) (repeated {A = ℕ} n m 0) in omega arith
 
 pub one-member : (w x y : ℕ) → ((j : ℕ) → (j ≡ x → ⊥) → bit w j ≡ 0) → Dec (y ≡ x) → bit w y ≡ 1 → y ≡ x
 one-member w x y h (yes e) p = e

@@ -1,11 +1,9 @@
 -- Every table is empty, and every column is zeros.
 use Prim.Native.Nat.{ℕ}
-use mathlib.Core.Path.{_≡_, refl}
+use mathlib.Core.Path.{refl}
 use native.Mathlib.Omega.{arith}
-use lib.ListN.{getD, replicate, length-replicate, getD-replicate, List·getD-eq-default}
-use lib.Dec.{ltb}
-use borrow.Author.Tests.{ltb-true, ltb-false}
-use mathlib.Core.Bool.{Bool, true, false}
+use lib.ListN.{replicate, length-replicate}
+use Rattle.places.proofs.Repeated.{repeated}
 use Rattle.runs.specs.Table.{tabulate}
 use Rattle.runs.specs.Members.{has}
 use Rattle.runs.proofs.TableLaws.{none-good}
@@ -16,18 +14,11 @@ use Rattle.store.specs.Store.{committed}
 use Rattle.store.proofs.empty.Statement.{statement}
 use Rattle.store.proofs.empty.Tie as tie
 
-zeros : (n i : ℕ) → _≡_ {A = ℕ} (getD (replicate n 0) i 0) 0
-zeros n i = go (ltb i n) refl
-  where
-    go : (t : Bool) → ltb i n ≡ t → _≡_ {A = ℕ} (getD (replicate n 0) i 0) 0
-    go true e = getD-replicate n i 0 0 (ltb-true i n e)
-    go false e = let h = ltb-false i n e in let l = length-replicate {A = ℕ} n 0 in List·getD-eq-default (replicate n 0) 0 (omega arith)
-
 no-places : (limit m : ℕ) → Places limit 0 m (replicate limit 0)
-no-places limit m = record { long = length-replicate limit 0; narrow = λ i. rw (zeros limit i) (omega arith); held = λ i h. absurd (omega (arith, h)) }
+no-places limit m = record { long = length-replicate limit 0; narrow = λ i. rw (repeated {A = ℕ} limit i 0) (omega arith); held = λ i h. absurd (omega (arith, h)) }
 
 no-ranks : (limit : ℕ) → Ranks limit (replicate limit 0)
-no-ranks limit = record { long = length-replicate limit 0; narrow = λ i. rw (zeros limit i) (omega arith) }
+no-ranks limit = record { long = length-replicate limit 0; narrow = λ i. rw (repeated {A = ℕ} limit i 0) (omega arith) }
 
 returns : tie.Need-returns
 unfolding committed tabulate keysIn keysOf has

@@ -1,14 +1,13 @@
 -- The keys that the column's first i name are marked.
 use Prim.Native.Nat.{ℕ, _-_, _≤_}
 use mathlib.Core.Path.{_≡_, refl, _∙_}
-use mathlib.Core.Bool.{Bool, true, false}
+use mathlib.Core.Bool.{false}
 use mathlib.Core.List.{[]}
 use native.Mathlib.Omega.{arith}
 use native.Mathlib.Nat.{le-antisymm}
-use lib.ListN.{length, getD, take, replicate, length-replicate, getD-replicate, List·getD-eq-default, length-set}
-use lib.Dec.{ltb}
-use borrow.Author.Tests.{ltb-true, ltb-false}
+use lib.ListN.{length, getD, take, replicate, length-set}
 use denote.Ref.{now}
+use Rattle.places.proofs.Repeated.{repeated}
 use Rattle.keyline.specs.Limits.{keyLimit}
 use Rattle.lists.specs.Marks.{among}
 use Rattle.lists.proofs.MarkLaws.{among-more}
@@ -17,11 +16,7 @@ use Rattle.lists.proofs.mark.subjects.Tie as tie
 
 none-marked : (n k : ℕ) → getD (replicate n false) k false ≡ among k []
 unfolding among
-none-marked n k = go (ltb k n) refl
-  where
-    go : (t : Bool) → ltb k n ≡ t → getD (replicate n false) k false ≡ false
-    go true e = getD-replicate n k false false (ltb-true k n e)
-    go false e = let h = ltb-false k n e in let l = length-replicate {A = Bool} n false in List·getD-eq-default (replicate n false) false (omega arith)
+none-marked n k = repeated n k false
 
 abbrev Inv-loop : tie.InvT-loop
 Inv-loop subject n on₀ i₀ on i = (i ≤ n) × (length on ≡ keyLimit) × ((k : ℕ) → getD on k false ≡ among k (take i subject))
