@@ -18,9 +18,9 @@ STORES := --small 40000 --medium 4000 --full 700 --scripts 6000 --mistakes 300
 endif
 CARGO := cd host && SALTBOBBIN_STATICLIB=$(LINKED) cargo
 
-# The tests: the documents are the ones we work from, the oracle agrees with document 01's plain reading, and the gate of the proofs with what
-# is run on top of them (.ci/gate). Its last line is 'N passed, 0 failed'.
-test: documents oracle
+# The tests: the documents are the ones we work from, and the gate of the proofs with the oracle and what is run on top of them (.ci/gate). Its
+# last line is 'N passed, 0 failed'.
+test: documents
 	rt fmt --check
 	.ci/gate
 

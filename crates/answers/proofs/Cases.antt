@@ -11,8 +11,8 @@ use Rattle.rules.specs.Rows.{levelOf}
 use Rattle.rules.proofs.Derivations.Monotone.{stands-top}
 use Rattle.rules.proofs.Evaluation.Caps.{capped-below}
 use Rattle.keyline.specs.Limits.{delegationLimit, keyLength, digestLength}
-use Rattle.keyline.specs.Power.{levelCount}
-use Rattle.keyline.specs.declared.power.Power.the-variants as power
+use Rattle.power_levels.specs.Power.{levelCount}
+use Rattle.power_levels.specs.declared.power.Power.the-variants as power
 use Rattle.keyline.specs.declared.refusal.Refusal.{Refusal}
 use Rattle.keyline.specs.declared.refusal.Refusal.the-variants.{BadLength}
 use Rattle.places.specs.declared.KeyPlace.{KeyPlace}

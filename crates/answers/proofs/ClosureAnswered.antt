@@ -8,7 +8,7 @@ use lib.ListN.{length, getD, length-map}
 use lib.Dec.{ltb}
 use Rattle.rules.specs.Rules.{Node}
 use Rattle.keyset.specs.Word.{bit}
-use Rattle.keyline.specs.Bytes.{front}
+use Rattle.lent.specs.Bytes.{front}
 use Rattle.keyline.specs.Limits.{keyLength, digestLength, delegationLimit, revocationLimit}
 use Rattle.keyline.specs.declared.refusal.Refusal.the-variants.{SmallBuffer}
 use Rattle.runs.specs.Bytes.{Bytes, runAt, runLength, joined}

@@ -3,9 +3,9 @@ use mathlib.Core.Path.{_≡_, ap}
 use mathlib.Core.List.{List-discrete}
 use native.Mathlib.Decide.{ℕ-discrete}
 use Rattle.rules.specs.Rules.{Finite}
-use Rattle.keyline.specs.Power.{rankOf}
-use Rattle.keyline.specs.declared.power.Power.{Power}
-use Rattle.keyline.proofs.Levels.{same-rank}
+use Rattle.power_levels.specs.Power.{rankOf}
+use Rattle.power_levels.specs.declared.power.Power.{Power}
+use Rattle.power_levels.proofs.Levels.{same-rank}
 use Rattle.runs.specs.Bytes.{Bytes}
 use Rattle.tables.specs.Committed.{Delegation, Committed}
 use Rattle.store.proofs.MadeLaws.{delegation-made}

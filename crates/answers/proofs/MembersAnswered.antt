@@ -11,7 +11,7 @@ use lib.Dec.{eqb}
 use Rattle.rules.specs.Rules.{EffectiveIs, Caps, MembersAre}
 use Rattle.rules.specs.Rows.{levelOf}
 use Rattle.keyset.specs.Word.{size, width}
-use Rattle.keyline.specs.Bytes.{front}
+use Rattle.lent.specs.Bytes.{front}
 use Rattle.keyline.specs.Limits.{keyLimit, keyLength}
 use Rattle.keyline.specs.declared.refusal.Refusal.the-variants.{SmallBuffer}
 use Rattle.runs.specs.Bytes.{Bytes, Less, runAt, runLength, joined}

@@ -14,8 +14,8 @@ use Rattle.rules.proofs.Derivations.Answers.{answer-unique}
 use Rattle.rules.proofs.Evaluation.Settled.{effective-settled, conveyed-settled, standing-settled, members-settled}
 use Rattle.rules.proofs.Evaluation.Listing.{lists-same}
 use Rattle.runs.proofs.AscentLaws.{lt-not-both}
-use Rattle.keyline.specs.Power.{rankOf}
-use Rattle.keyline.proofs.Levels.{same-rank}
+use Rattle.power_levels.specs.Power.{rankOf}
+use Rattle.power_levels.proofs.Levels.{same-rank}
 use Rattle.runs.specs.Bytes.{Bytes, Less}
 use Rattle.runs.specs.Members.{has}
 use Rattle.tables.specs.Committed.{Delegation, Revocation, Committed, delegationDigests, delegationWith}

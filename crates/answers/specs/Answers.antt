@@ -10,9 +10,9 @@ use lib.ListN.{length}
 use Rattle.rules.specs.Rules.{PositiveIs, EffectiveIs, ConveyedIs, MembersAre, StandingIs, Lists, Closure, ClosureRev}
 use Rattle.rules.specs.Rules as rules
 use Rattle.keyline.specs.Limits.{keyLength, digestLength}
-use Rattle.keyline.specs.Bytes.{front}
-use Rattle.keyline.specs.Power.{rankOf, byteOf}
-use Rattle.keyline.specs.declared.power.Power.{Power}
+use Rattle.lent.specs.Bytes.{front}
+use Rattle.power_levels.specs.Power.{rankOf, byteOf}
+use Rattle.power_levels.specs.declared.power.Power.{Power}
 use Rattle.keyline.specs.declared.refusal.Refusal.the-variants.{BadLength, SmallBuffer}
 use Rattle.runs.specs.Bytes.{Bytes, Less, joined}
 use Rattle.runs.specs.Members.{has}

@@ -4,7 +4,7 @@ use mathlib.Core.Path.{_≡_}
 use mathlib.Core.List.{List·Memᴰ}
 use Rattle.rules.specs.Rules.{Shape, Graph, Revocations, Store}
 use Rattle.rules.specs.Rules as rules
-use Rattle.keyline.specs.Power.{rankOf}
+use Rattle.power_levels.specs.Power.{rankOf}
 use Rattle.runs.specs.Bytes.{Bytes, Less}
 use Rattle.tables.specs.Committed.{Delegation, Revocation, Committed}
 

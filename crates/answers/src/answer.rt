@@ -1,9 +1,9 @@
 // What the queries of an evaluated set answer. specs/Answers says what each has to be, case by case.
-use keyline::power::Power;
 use keyline::refusal::Refusal;
+use power_levels::power::Power;
 ghost use Prim.Native.Nat.{_≤_};
 ghost use Rattle.rules.specs.Rows.{levelOf};
-ghost use Rattle.keyline.specs.Power.{levelCount};
+ghost use Rattle.power_levels.specs.Power.{levelCount};
 ghost use Rattle.answers.specs.Answers.{LevelIs};
 
 // A key's power over a subject, or what a delegation conveys.

@@ -36,7 +36,7 @@ fn insert(state: State, digest: &[u8], issuer: &[u8], payload: &[u8], n: usize) 
     requires { ⌜ GoodState state ⌝ }
     ensures { λ r. ⌜ GoodState (r .state) ⌝ }
 {
-    state.insert_delegation(digest, issuer, notation::words::part(payload, 0, n))
+    state.insert_delegation(digest, issuer, text::words::part(payload, 0, n))
 }
 
 pub(crate) fn revocation(state: State, s: Statement, number: usize) -> State

@@ -1,10 +1,10 @@
 // What a wrong line ought to have had, in words.
 use crate::say::counted;
 use crate::say::text;
-use notation::line::LINE_LENGTH;
-use notation::name::NAME_LENGTH;
 use notation::statement::Expected;
 use notation::statement::Question;
+use text::line::LINE_LENGTH;
+use text::name::NAME_LENGTH;
 
 pub(crate) fn tell(wanted: Expected) {
     text(b"expected ");

@@ -10,10 +10,10 @@ use keyline::limits::CITED_LENGTH;
 use keyline::limits::DIGEST_LENGTH;
 use keyline::limits::KEY_LENGTH;
 use keyline::limits::KEY_LIMIT;
-use keyline::power::Power;
 use keyline_memory::state::State;
 use lists::write::BothListed;
 use lists::write::Listed;
+use power_levels::power::Power;
 use queries::evaluated::Evaluated;
 ghost use Rattle.keyline_memory.specs.State.{GoodState};
 ghost use Rattle.queries.specs.Evaluated.{GoodEvaluated};
@@ -169,7 +169,7 @@ fn style(conveyed: Powered, stated: u8) {
 }
 
 fn capped(p: Power, stated: u8) {
-    if keyline::power::byte(p) != stated {
+    if power_levels::power::byte(p) != stated {
         say::text(b"\\nconveys ");
         say::level(p);
     }

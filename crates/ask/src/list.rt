@@ -8,8 +8,8 @@ use keyline::limits::REVOCATION_LIMIT;
 use keyline_memory::state::State;
 use lists::write::BothListed;
 use lists::write::Listed;
-use notation::words::part;
 use queries::evaluated::Evaluated;
+use text::words::part;
 ghost use Rattle.keyline_memory.specs.State.{GoodState};
 ghost use Rattle.queries.specs.Evaluated.{GoodEvaluated};
 

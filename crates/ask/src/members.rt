@@ -58,7 +58,7 @@ fn line(subject: &[u8], key: &[u8], power: u8, width: usize, plain: bool) {
     } else {
         say::text(b"  ");
         say::name(key);
-        say::spaces(left(width, notation::name::length(key)));
+        say::spaces(left(width, text::name::length(key)));
         say::text(b"  ");
     }
     show::level_of(power);
@@ -84,7 +84,7 @@ fn widest(keys: &[u8], n: usize) -> usize {
     let mut width = 0;
     let mut i = 0;
     while i < n {
-        width = larger(width, notation::name::length(list::item(keys, i)));
+        width = larger(width, text::name::length(list::item(keys, i)));
         i += 1;
     }
     width

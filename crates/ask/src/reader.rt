@@ -6,14 +6,14 @@ use crate::question;
 use crate::say;
 use keyline_memory::state::State;
 use libc::STDERR_FILENO;
-use notation::line;
-use notation::line::Line;
 use notation::statement;
 use notation::statement::Expected;
 use notation::statement::Kind;
 use notation::statement::Question;
 use notation::statement::Statement;
-use notation::words;
+use text::line;
+use text::line::Line;
+use text::words;
 ghost use Prim.Native.Nat.{_≤_};
 ghost use Rattle.keyline_memory.specs.State.{GoodState};
 

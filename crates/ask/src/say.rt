@@ -1,9 +1,9 @@
 // Words, names, numbers, levels and refusals to standard output.
 use answers::answer::Powered;
 use keyline::limits::KEY_LIMIT;
-use keyline::power::Power;
 use keyline::refusal::Refusal;
 use libc::STDOUT_FILENO;
+use power_levels::power::Power;
 
 pub(crate) fn text(word: &[u8]) {
     io::write_all(STDOUT_FILENO, word);
@@ -14,7 +14,7 @@ pub(crate) fn number(n: usize) {
 }
 
 pub(crate) fn name(key: &[u8]) {
-    text(notation::name::name(key));
+    text(text::name::name(key));
 }
 
 pub(crate) fn level(p: Power) {
@@ -36,7 +36,7 @@ pub(crate) fn powered(r: Powered) {
 
 // So many spaces, up to 32: what is left of a column.
 pub(crate) fn spaces(n: usize) {
-    text(notation::words::part(b"                                ", 0, n));
+    text(text::words::part(b"                                ", 0, n));
 }
 
 // What is said of a line of the text begins with its number.

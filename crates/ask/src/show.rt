@@ -4,10 +4,10 @@ use keyline::limits::CITED_LENGTH;
 use keyline::limits::DIGEST_LENGTH;
 use keyline::limits::KEY_LENGTH;
 use keyline::limits::POWER_AT;
-use keyline::power::Level;
 use keyline_memory::state::State;
 use lookups::put::Looked;
-use notation::words::part;
+use power_levels::power::Level;
+use text::words::part;
 ghost use Rattle.keyline_memory.specs.State.{GoodState};
 
 pub(crate) fn delegation(state: State, digest: &[u8])
@@ -80,7 +80,7 @@ pub(crate) fn power(payload: &[u8]) -> u8 {
 }
 
 pub(crate) fn level_of(byte: u8) {
-    match keyline::power::from_byte(byte) {
+    match power_levels::power::from_byte(byte) {
         Level::Unknown => say::text(b"no level"),
         Level::Is(p) => say::level(p),
     }

@@ -4,11 +4,11 @@ use Prim.Native.Nat.{ℕ}
 use mathlib.Core.Path.{_≡_, sym, ap, _∙_}
 use mathlib.Core.Bool.{Bool}
 use mathlib.Core.List.{List}
-use Rattle.keyline.specs.Power.{byteOf}
+use Rattle.power_levels.specs.Power.{byteOf}
 use Rattle.codec.specs.Delegation.{audienceOf, subjectOf, powerByteOf, decoded, citationOf, encoded}
-use Rattle.keyline.specs.declared.power.Power.{Power}
+use Rattle.power_levels.specs.declared.power.Power.{Power}
 use Rattle.codec.specs.declared.delegation.Decoded.the-variants.{Accepted}
-use Rattle.keyline.proofs.Levels.{level-byte, same-byte}
+use Rattle.power_levels.proofs.Levels.{level-byte, same-byte}
 use Rattle.codec.proofs.Parts.{RightLengths, has-parts, parts}
 
 -- s is the encoding of an audience, a subject, the level p and, where t says so, a citation, each of its right length

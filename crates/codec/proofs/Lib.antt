@@ -4,3 +4,4 @@ pub mod Writing
 pub mod Parts
 pub mod RoundTrip
 pub mod Content
+pub mod FourWrites

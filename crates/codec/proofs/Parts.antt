@@ -8,13 +8,13 @@ use native.Mathlib.Omega.{arith}
 use lib.ListN.{length, drop, length-append, length-drop, take-append-drop, drop-of-length-le}
 use lib.Seq.{getD-at, take-at, drop-at, drop-cons, drop-drop, take-all, append-snoc, length-take-le}
 use Rattle.keyline.specs.Limits.{keyLength, digestLength, powerAt, tagAt, payloadLength}
-use Rattle.keyline.specs.Power.{levelOf, byteOf}
+use Rattle.power_levels.specs.Power.{levelOf, byteOf}
 use Rattle.codec.specs.Delegation.{audienceOf, subjectOf, powerByteOf, tagByteOf, decoded, cited, citationOf, tagFor, encoded}
-use Rattle.keyline.specs.declared.power.Power.{Power}
-use Rattle.keyline.specs.declared.power.Level.the-variants.{Is}
+use Rattle.power_levels.specs.declared.power.Power.{Power}
+use Rattle.power_levels.specs.declared.power.Level.the-variants.{Is}
 use Rattle.keyline.specs.declared.refusal.Refusal.{Refusal}
 use Rattle.codec.specs.declared.delegation.Decoded.the-variants.{Accepted, Refused}
-use Rattle.keyline.proofs.Levels.{byte-level}
+use Rattle.power_levels.proofs.Levels.{byte-level}
 use Rattle.codec.proofs.Reading.{tagWith, lengthWith, citationWith, at-least-base, sound, complete}
 
 -- parts of the right lengths; t says whether there is a citation

@@ -10,11 +10,11 @@ use lib.ListN.{length}
 use lib.Dec.{eqb, ltb}
 use borrow.Author.Tests.{ltb-false, eqb-true}
 use Rattle.keyline.specs.Limits.{digestLength, payloadLength, citedLength}
-use Rattle.keyline.specs.Power.{levelOf}
+use Rattle.power_levels.specs.Power.{levelOf}
 use Rattle.codec.specs.Delegation.{powerByteOf, tagByteOf, citationAbsent, citationPresent, tagged, leveled, decoded}
-use Rattle.keyline.specs.declared.power.Power.{Power}
-use Rattle.keyline.specs.declared.power.Level.{Level}
-use Rattle.keyline.specs.declared.power.Level.the-variants.{Is, Unknown}
+use Rattle.power_levels.specs.declared.power.Power.{Power}
+use Rattle.power_levels.specs.declared.power.Level.{Level}
+use Rattle.power_levels.specs.declared.power.Level.the-variants.{Is, Unknown}
 use Rattle.keyline.specs.declared.refusal.Refusal.{Refusal}
 use Rattle.keyline.specs.declared.refusal.Refusal.the-variants.{UnexpectedEnd, TrailingBytes, InvalidTag}
 use Rattle.codec.specs.declared.delegation.Decoded.the-variants.{Accepted, Refused}

@@ -5,15 +5,15 @@ use mathlib.Core.Bool.{Bool}
 use mathlib.Core.List.{List}
 use lib.ListN.{length, take, drop}
 use Rattle.keyline.specs.Limits.{payloadLength}
-use Rattle.keyline.specs.Bytes.{front}
-use Rattle.keyline.specs.Power.{levelOf, byteOf}
+use Rattle.lent.specs.Bytes.{front}
+use Rattle.power_levels.specs.Power.{levelOf, byteOf}
 use Rattle.codec.specs.Delegation.{audienceOf, subjectOf, decoded, citationOf, encoded, encodeAnswer, afterEncode}
-use Rattle.keyline.specs.declared.power.Power.{Power}
-use Rattle.keyline.specs.declared.power.Level.the-variants.{Is}
+use Rattle.power_levels.specs.declared.power.Power.{Power}
+use Rattle.power_levels.specs.declared.power.Level.the-variants.{Is}
 use Rattle.codec.specs.declared.delegation.Decoded.the-variants.{Accepted}
 use Rattle.codec.specs.declared.delegation.Encoded.the-variants as answer
-use Rattle.keyline.proofs.Levels.{level-byte}
-use Rattle.keyline.proofs.Fronts.{take-front, drop-front}
+use Rattle.power_levels.proofs.Levels.{level-byte}
+use Rattle.lent.proofs.Fronts.{take-front, drop-front}
 use Rattle.codec.proofs.Reading.{length-sum, sound}
 use Rattle.codec.proofs.Writing.{written, writes, after-written}
 use Rattle.codec.proofs.Parts.{HasParts, has-parts, parts}

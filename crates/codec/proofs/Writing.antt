@@ -9,12 +9,12 @@ use lib.ListN.{length}
 use lib.Dec.{eqb, ltb}
 use borrow.Author.Tests.{ltb-false, eqb-true, eq-eqb, le-ltb}
 use Rattle.keyline.specs.Limits.{keyLength, digestLength, payloadLength}
-use Rattle.keyline.specs.Power.{levelOf}
-use Rattle.keyline.specs.Bytes.{front}
+use Rattle.power_levels.specs.Power.{levelOf}
+use Rattle.lent.specs.Bytes.{front}
 use Rattle.codec.specs.Delegation.{encoded, citationFits, encodeLeveled, encodeChecked, encodeAnswer, filled, afterEncode, Room}
-use Rattle.keyline.specs.declared.power.Power.{Power}
-use Rattle.keyline.specs.declared.power.Level.{Level}
-use Rattle.keyline.specs.declared.power.Level.the-variants.{Is, Unknown}
+use Rattle.power_levels.specs.declared.power.Power.{Power}
+use Rattle.power_levels.specs.declared.power.Level.{Level}
+use Rattle.power_levels.specs.declared.power.Level.the-variants.{Is, Unknown}
 use Rattle.keyline.specs.declared.refusal.Refusal.{Refusal}
 use Rattle.keyline.specs.declared.refusal.Refusal.the-variants.{BadLength}
 use Rattle.codec.specs.declared.delegation.Encoded.{Encoded}

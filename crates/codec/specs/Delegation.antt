@@ -7,11 +7,11 @@ use mathlib.Core.Path.{_≡_}
 use lib.ListN.{length, take, drop, getD}
 use lib.Dec.{eqb, ltb}
 use Rattle.keyline.specs.Limits.{keyLength, digestLength, powerAt, tagAt, payloadLength, citedLength}
-use Rattle.keyline.specs.Power.{levelOf}
-use Rattle.keyline.specs.Bytes.{front}
-use Rattle.keyline.specs.declared.power.Power.{Power}
-use Rattle.keyline.specs.declared.power.Level.{Level}
-use Rattle.keyline.specs.declared.power.Level.the-variants.{Is, Unknown}
+use Rattle.power_levels.specs.Power.{levelOf}
+use Rattle.lent.specs.Bytes.{front}
+use Rattle.power_levels.specs.declared.power.Power.{Power}
+use Rattle.power_levels.specs.declared.power.Level.{Level}
+use Rattle.power_levels.specs.declared.power.Level.the-variants.{Is, Unknown}
 use Rattle.keyline.specs.declared.refusal.Refusal.the-variants.{BadLength, UnexpectedEnd, TrailingBytes, InvalidTag, SmallBuffer}
 use Rattle.codec.specs.declared.delegation.Decoded.{Decoded}
 use Rattle.codec.specs.declared.delegation.Decoded.the-variants.{Accepted, Refused}

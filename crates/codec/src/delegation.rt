@@ -6,11 +6,11 @@ use keyline::limits::KEY_LENGTH;
 use keyline::limits::PAYLOAD_LENGTH;
 use keyline::limits::POWER_AT;
 use keyline::limits::TAG_AT;
-use keyline::power::Level;
-use keyline::power::Power;
 use keyline::refusal::Refusal;
+use power_levels::power::Level;
+use power_levels::power::Power;
 ghost use mathlib.Core.Path.{_≡_};
-ghost use Rattle.keyline.specs.Bytes.{front};
+ghost use Rattle.lent.specs.Bytes.{front};
 ghost use Rattle.codec.specs.Delegation.{decoded, tagged, citationOf, encoded, tagFor, citationFits, encodeChecked, encodeAnswer, afterEncode, Room};
 
 // The tag's two values.
@@ -38,7 +38,7 @@ pub fn decode(payload: &[u8]) -> Decoded
     }
     let b = payload[POWER_AT];
     let tag = payload[TAG_AT];
-    match keyline::power::from_byte(b) {
+    match power_levels::power::from_byte(b) {
         Level::Unknown => Decoded::Refused(Refusal::InvalidTag(b)),
         Level::Is(p) => decode_tag(payload.len(), p, tag),
     }
@@ -123,7 +123,7 @@ fn encode_check(audience: usize, subject: usize, power: u8, citation: usize, roo
     if !citation_fits(citation) {
         return Encoded::Refused(Refusal::BadLength(citation));
     }
-    match keyline::power::from_byte(power) {
+    match power_levels::power::from_byte(power) {
         Level::Unknown => Encoded::Refused(Refusal::InvalidTag(power)),
         Level::Is(_) => {
             let needed = PAYLOAD_LENGTH + citation;
@@ -151,11 +151,11 @@ fn write_parts(audience: &[u8], subject: &[u8], power: u8, citation: &[u8], out:
     requires { ⌜ Room (now audience) (now subject) (now citation) (now out) ⌝ }
     ensures { λ _. ⌜ now (out .exit) ≡ front (encoded (now (audience .entry)) (now (subject .entry)) power (now (citation .entry))) (now (out .entry)) ⌝ }
 {
-    keyline::bytes::copy_at(out, 0, audience);
-    keyline::bytes::copy_at(out, KEY_LENGTH, subject);
+    lent::bytes::copy_at(out, 0, audience);
+    lent::bytes::copy_at(out, KEY_LENGTH, subject);
     let power_and_tag = [power, tag_for(citation.len())];
-    keyline::bytes::copy_at(out, POWER_AT, &power_and_tag);
-    keyline::bytes::copy_at(out, PAYLOAD_LENGTH, citation);
+    lent::bytes::copy_at(out, POWER_AT, &power_and_tag);
+    lent::bytes::copy_at(out, PAYLOAD_LENGTH, citation);
 }
 
 // The tag before a citation of n bytes.

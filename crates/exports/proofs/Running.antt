@@ -7,7 +7,8 @@ use Rattle.keyline.specs.declared.refusal.Refusal.{Refusal}
 use Rattle.script.specs.Run.{RanAs}
 use Rattle.script.specs.declared.run.Ran.{Ran}
 use Rattle.script.specs.declared.run.Ran.the-variants as ran
-use Rattle.exports.specs.Answer.{notRefused, RunIs, ran-as}
+use Rattle.numbers.specs.Numbers.{notRefused}
+use Rattle.exports.specs.Answer.{RunIs, ran-as}
 
 pub ran-bytes : {s o out : List ℕ} {r : Ran} {n : ℕ} → RanAs s o r out → r ≡ ran.Bytes n → RunIs s o notRefused out n 0
 ran-bytes {s} {o} {out} t e = ran-as (subst (λ x. RanAs s o x out) e t)

@@ -1,65 +1,11 @@
--- What C is handed, from what keyline's reader and writer answer: the refusal's number and the value beside it are document 01's, and 0 says
--- that nothing was refused. Each part that an answer does not have is 0. Rests on keyline's definitions.
+-- What C is handed of a script's run, as specs/Numbers of `numbers` has it for payloads. Rests on that and on `script`.
 use Prim.Native.Nat.{ℕ}
-use mathlib.Core.Bool.{Bool, cond}
 use mathlib.Core.List.{List}
-use Rattle.keyline.specs.Limits.{digestLength}
-use Rattle.keyline.specs.Power.{rankOf, byteOf}
 use Rattle.keyline.specs.Refusal.{numberOf, besideOf}
-use Rattle.codec.specs.declared.delegation.Decoded.{Decoded}
-use Rattle.codec.specs.declared.delegation.Decoded.the-variants.{Accepted, Refused}
-use Rattle.codec.specs.declared.delegation.Encoded.{Encoded}
-use Rattle.codec.specs.declared.delegation.Encoded.the-variants as answer
+use Rattle.numbers.specs.Numbers.{notRefused}
 use Rattle.script.specs.Run.{RanAs}
 use Rattle.script.specs.declared.run.Ran.{Ran}
 use Rattle.script.specs.declared.run.Ran.the-variants as ran
-
--- the number of an answer that is no refusal
-abbrev pub notRefused : ℕ
-notRefused = 0
-
--- The reader: the refusal's number, ..
-abbrev pub decodeNumber : Decoded → ℕ
-decodeNumber (Accepted p t) = notRefused
-decodeNumber (Refused r) = numberOf r
-
--- .. the value beside it, ..
-abbrev pub decodeBeside : Decoded → ℕ
-decodeBeside (Accepted p t) = 0
-decodeBeside (Refused r) = besideOf r
-
--- .. the power's byte, ..
-abbrev pub decodePower : Decoded → ℕ
-decodePower (Accepted p t) = byteOf p
-decodePower (Refused r) = 0
-
--- .. its rank, by which levels are compared, ..
-abbrev pub decodeRank : Decoded → ℕ
-decodeRank (Accepted p t) = rankOf p
-decodeRank (Refused r) = 0
-
--- .. and, where a citation follows, how many bytes it has. (The contract says the length of `citationOf`; the code goes by this.)
-abbrev pub citationBytes : Bool → ℕ
-citationBytes cited = cond cited digestLength 0
-
-abbrev pub decodeCitation : Decoded → ℕ
-decodeCitation (Accepted p t) = citationBytes t
-decodeCitation (Refused r) = 0
-
--- The writer: the refusal's number, ..
-abbrev pub encodeNumber : Encoded → ℕ
-encodeNumber (answer.Bytes n) = notRefused
-encodeNumber (answer.Refused r) = numberOf r
-
--- .. the value beside it, ..
-abbrev pub encodeBeside : Encoded → ℕ
-encodeBeside (answer.Bytes n) = 0
-encodeBeside (answer.Refused r) = besideOf r
-
--- .. and the number of bytes written.
-abbrev pub encodeWritten : Encoded → ℕ
-encodeWritten (answer.Bytes n) = n
-encodeWritten (answer.Refused r) = 0
 
 -- A script's run: the refusal's number, the value beside it and the number of bytes written, from what `run` of `script` answers. The
 -- answers are those of `RanAs`, which says them request by request.

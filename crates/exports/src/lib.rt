@@ -1,18 +1,13 @@
 // The delegation payload's reader and writer, and the whole kernel on a script, for callers through C, the app's Rust among them.
 // keyline.h beside src/ is their declaration.
 // Each answers a refusal's number, or 0, and puts every other part of the answer behind a pointer of the caller's.
-use codec::delegation::Decoded;
-use codec::delegation::Encoded;
-use keyline::limits::DIGEST_LENGTH;
+use numbers::NOT_REFUSED;
 use script::run::Ran;
 ghost use mathlib.Core.Path.{_≡_};
 ghost use lib.ListN.{length};
 ghost use Rattle.codec.specs.Delegation.{decoded, citationOf, encodeAnswer, afterEncode};
-ghost use Rattle.exports.specs.Answer.{decodeNumber, decodeBeside, decodePower, decodeRank, citationBytes, encodeNumber, encodeBeside, encodeWritten};
+ghost use Rattle.numbers.specs.Numbers.{decodeNumber, decodeBeside, decodePower, decodeRank, encodeNumber, encodeBeside, encodeWritten};
 ghost use Rattle.exports.specs.Answer.{RunIs};
-
-// The number of an answer that is no refusal.
-const NOT_REFUSED: u8 = 0;
 
 // Reads a payload. Behind the pointers: the value beside a refusal, the power's byte and rank, and the number of citation bytes.
 #[no_mangle]
@@ -29,29 +24,7 @@ pub extern "C" fn keyline_delegation_decode(
     ensures { λ _. ⌜ now (rank .exit) ≡ decodeRank (decoded (now (payload .entry))) ⌝ }
     ensures { λ _. ⌜ now (citation .exit) ≡ length (citationOf (now (payload .entry))) ⌝ }
 {
-    match codec::delegation::decode(payload) {
-        Decoded::Accepted(p, cited) => {
-            *beside = 0;
-            *power = keyline::power::byte(p);
-            *rank = keyline::power::rank(p);
-            *citation = citation_bytes(cited);
-            NOT_REFUSED
-        }
-        Decoded::Refused(r) => {
-            *beside = keyline::refusal::beside(r);
-            *power = 0;
-            *rank = 0;
-            *citation = 0;
-            keyline::refusal::number(r)
-        }
-    }
-}
-
-// How many bytes of citation follow.
-fn citation_bytes(cited: bool) -> usize
-    ensures { λ r. ⌜ r ≡ citationBytes cited ⌝ }
-{
-    if cited { DIGEST_LENGTH } else { 0 }
+    numbers::decode(payload, beside, power, rank, citation)
 }
 
 // Writes a payload to the front of out. Behind the pointers: the number of bytes written, and the value beside a refusal.
@@ -70,18 +43,7 @@ pub extern "C" fn keyline_delegation_encode(
     ensures { λ _. ⌜ now (beside .exit) ≡ encodeBeside (encodeAnswer (now (audience .entry)) (now (subject .entry)) power (now (citation .entry)) (now (out .entry))) ⌝ }
     ensures { λ _. ⌜ now (out .exit) ≡ afterEncode (now (audience .entry)) (now (subject .entry)) power (now (citation .entry)) (now (out .entry)) ⌝ }
 {
-    match codec::delegation::encode(audience, subject, power, citation, out) {
-        Encoded::Bytes(n) => {
-            *written = n;
-            *beside = 0;
-            NOT_REFUSED
-        }
-        Encoded::Refused(r) => {
-            *written = 0;
-            *beside = keyline::refusal::beside(r);
-            keyline::refusal::number(r)
-        }
-    }
+    numbers::encode(audience, subject, power, citation, out, written, beside)
 }
 
 // Runs a script (docs/SCRIPT.md) from the empty set; the replies go to the front of answers. Behind the pointers: the number of bytes

@@ -1,4 +1,2 @@
 pub mod Limits
-pub mod Power
 pub mod Refusal
-pub mod Bytes

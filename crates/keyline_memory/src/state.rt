@@ -39,7 +39,7 @@ impl State {
         requires { ⌜ GoodState self ⌝ }
         ensures { λ r. ⌜ Insertion self r (delegationAnswer (heldIn self) (now (digest .entry)) (now (issuer .entry)) (now (payload .entry))) (delegationAdded (heldIn self) (now (digest .entry)) (now (issuer .entry)) (now (payload .entry))) ⌝ }
     {
-        let r = store::insert_delegation(self.store, digest, issuer, payload);
+        let r = insertion::insert_delegation(self.store, digest, issuer, payload);
         let answer = r.answer;
         let store = r.store;
         let state = State { store };
@@ -50,7 +50,7 @@ impl State {
         requires { ⌜ GoodState self ⌝ }
         ensures { λ r. ⌜ Insertion self r (revocationAnswer (heldIn self) (now (digest .entry)) (now (issuer .entry)) (now (revoked .entry))) (revocationAdded (heldIn self) (now (digest .entry)) (now (issuer .entry)) (now (revoked .entry))) ⌝ }
     {
-        let r = store::insert_revocation(self.store, digest, issuer, revoked);
+        let r = insertion::insert_revocation(self.store, digest, issuer, revoked);
         let answer = r.answer;
         let store = r.store;
         let state = State { store };

@@ -3,13 +3,13 @@ use answers::answer::Liveness;
 use answers::answer::Powered;
 use answers::answer::Stood;
 use keyline::limits::DIGEST_LENGTH;
-use keyline::power::Power;
 use keyline::refusal::Refusal;
 use libc::STDOUT_FILENO;
 use lists::write::BothListed;
 use lists::write::Listed;
 use lookups::lookup::Contained;
 use lookups::put::Looked;
+use power_levels::power::Power;
 use tables::answer::Answer;
 
 // What a buffer is filled with before a call; no key, no digest and no power has such a byte.
@@ -50,7 +50,7 @@ pub(crate) fn contained(c: Contained) {
 }
 
 fn power(p: Power) {
-    byte(b": level ", keyline::power::rank(p));
+    byte(b": level ", power_levels::power::rank(p));
 }
 
 pub(crate) fn powered(p: Powered) {

@@ -6,8 +6,8 @@ use native.Mathlib.Omega.{arith}
 use lib.ListN.{length, take, drop, getD, length-map, length-drop, drop-of-length-le}
 use lib.Seq.{length-take-le, getD-take}
 use borrow.Rule.Slice.PartMut.{putMid}
-use Rattle.keyline.specs.Bytes.{front}
-use Rattle.keyline.proofs.Fronts.{length-front}
+use Rattle.lent.specs.Bytes.{front}
+use Rattle.lent.proofs.Fronts.{length-front}
 use Rattle.runs.specs.Bytes.{Bytes, runLength, runAt, joined}
 use Rattle.runs.specs.Chosen.{chosen}
 use Rattle.runs.specs.declared.list.Chosen.{Chosen}

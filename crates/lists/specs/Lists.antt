@@ -7,7 +7,7 @@ use mathlib.Core.Bool.{Bool, true, false, cond}
 use mathlib.Core.List.{List, [], _∷_, _++_, map, List·Memᴰ}
 use lib.ListN.{length}
 use lib.Dec.{eqb, ltb}
-use Rattle.keyline.specs.Bytes.{front}
+use Rattle.lent.specs.Bytes.{front}
 use Rattle.keyline.specs.declared.refusal.Refusal.the-variants.{SmallBuffer, BadLength}
 use Rattle.runs.specs.Bytes.{Bytes, runLength, eqBytes, joined}
 use Rattle.runs.specs.Sorted.{sorted}

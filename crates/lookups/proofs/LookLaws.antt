@@ -7,14 +7,14 @@ use mathlib.Core.List.{[]}
 use native.Mathlib.Omega.{arith}
 use lib.ListN.{length, take, drop, length-append}
 use borrow.Author.Tests.{lt-ltb, le-ltb, eq-eqb, ne-eqb}
-use Rattle.keyline.specs.Bytes.{front}
-use Rattle.keyline.specs.Power.{levelOf, byteOf}
+use Rattle.lent.specs.Bytes.{front}
+use Rattle.power_levels.specs.Power.{levelOf, byteOf}
 use Rattle.codec.specs.Delegation.{encoded, encodeAnswer, afterEncode, filled}
-use Rattle.keyline.specs.declared.power.Power.{Power}
-use Rattle.keyline.specs.declared.power.Level.the-variants.{Is}
+use Rattle.power_levels.specs.declared.power.Power.{Power}
+use Rattle.power_levels.specs.declared.power.Level.the-variants.{Is}
 use Rattle.codec.specs.declared.delegation.Encoded.the-variants as written
 use Rattle.keyline.specs.declared.refusal.Refusal.the-variants.{SmallBuffer, BadLength}
-use Rattle.keyline.proofs.Levels.{level-byte}
+use Rattle.power_levels.proofs.Levels.{level-byte}
 use Rattle.codec.proofs.Writing.{writes}
 use Rattle.places.specs.declared.DelegationPlace.{DelegationPlace}
 use Rattle.runs.specs.Bytes.{Bytes, runLength, runAt}

@@ -5,7 +5,7 @@ use mathlib.Core.Bool.{Bool, cond}
 use mathlib.Core.List.{List}
 use lib.ListN.{length}
 use lib.Dec.{ltb, eqb}
-use Rattle.keyline.specs.Bytes.{front}
+use Rattle.lent.specs.Bytes.{front}
 use Rattle.keyline.specs.declared.refusal.Refusal.the-variants.{SmallBuffer, BadLength}
 use Rattle.runs.specs.Bytes.{Bytes}
 use Rattle.runs.specs.Members.{has}

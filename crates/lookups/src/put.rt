@@ -2,11 +2,11 @@
 use keyline::limits::DIGEST_LENGTH;
 use keyline::limits::KEY_LENGTH;
 use keyline::limits::PAYLOAD_LENGTH;
-use keyline::power::Power;
 use keyline::refusal::Refusal;
 use places::DelegationPlace;
 use places::KeyPlace;
 use places::RevocationPlace;
+use power_levels::power::Power;
 use runs::bytes;
 use runs::bytes::RUN_LENGTH;
 use tables::delegations::DelegationRow;
@@ -14,8 +14,8 @@ ghost use mathlib.Core.Path.{_≡_};
 ghost use mathlib.Core.Bool.{cond};
 ghost use Prim.Native.Nat.{_≤_, _<_, _+_, _*_};
 ghost use lib.ListN.{length};
-ghost use Rattle.keyline.specs.Power.{byteOf};
-ghost use Rattle.keyline.specs.Bytes.{front};
+ghost use Rattle.power_levels.specs.Power.{byteOf};
+ghost use Rattle.lent.specs.Bytes.{front};
 ghost use Rattle.runs.specs.Bytes.{runLength, runAt};
 ghost use Rattle.tables.specs.Committed.{payloadOf};
 ghost use Rattle.tables.specs.Columns.{powerOf};
@@ -42,15 +42,15 @@ fn power_byte(rank: u8) -> u8
     ensures { λ r. ⌜ r ≡ byteOf (powerOf rank) ⌝ }
 {
     if rank == 0 {
-        return keyline::power::byte(Power::Relay);
+        return power_levels::power::byte(Power::Relay);
     }
     if rank == 1 {
-        return keyline::power::byte(Power::Read);
+        return power_levels::power::byte(Power::Read);
     }
     if rank == 2 {
-        return keyline::power::byte(Power::Edit);
+        return power_levels::power::byte(Power::Edit);
     }
-    keyline::power::byte(Power::Admin)
+    power_levels::power::byte(Power::Admin)
 }
 
 fn citation_length(cited: bool) -> usize

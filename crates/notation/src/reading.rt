@@ -1,13 +1,13 @@
 // From a line to a statement. A line whose second word is `:` is a certificate; every other line is a question, told by its first words.
-use crate::name;
 use crate::statement;
 use crate::statement::Expected;
 use crate::statement::Kind;
 use crate::statement::Question;
 use crate::statement::Statement;
-use crate::words;
-use crate::words::Words;
 use check::same;
+use text::name;
+use text::words;
+use text::words::Words;
 
 pub fn read(text: &[u8]) -> Statement {
     let w = words::split(text);

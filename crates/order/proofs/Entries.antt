@@ -10,10 +10,10 @@ use lib.ListN.{length, length-append}
 use lib.Dec.{ltb, eqb}
 use borrow.Author.Tests.{eqb-true}
 use Rattle.keyline.specs.Limits.{keyLength, digestLength, keyLimit, delegationLimit, revocationLimit}
-use Rattle.keyline.specs.Power.{rankOf}
-use Rattle.keyline.proofs.Levels.{same-rank}
+use Rattle.power_levels.specs.Power.{rankOf}
+use Rattle.power_levels.proofs.Levels.{same-rank}
 use Rattle.codec.specs.Delegation.{decoded}
-use Rattle.keyline.specs.declared.power.Power.{Power}
+use Rattle.power_levels.specs.declared.power.Power.{Power}
 use Rattle.codec.specs.declared.delegation.Decoded.{Decoded}
 use Rattle.codec.specs.declared.delegation.Decoded.the-variants as reading
 use Rattle.keyline.specs.declared.refusal.Refusal.{Refusal}
@@ -27,7 +27,7 @@ use Rattle.tables.specs.Insertion.{Seen, seenDelegation, seenRevocation, heldAn
 use Rattle.tables.specs.declared.answer.Answer.{Answer}
 use Rattle.tables.specs.declared.answer.Answer.the-variants.{Added, NotAdded, Refused}
 use Rattle.store.proofs.MadeLaws.{delegation-made, revocation-made}
-use Rattle.store.proofs.AnswerLaws.{delegation-added, revocation-added}
+use Rattle.insertion.proofs.AnswerLaws.{delegation-added, revocation-added}
 use Rattle.tables.proofs.ContentLaws.{content-parts, revoked-same}
 use Rattle.tables.proofs.PayloadLaws.{parts}
 use Rattle.order.specs.AnyOrder.{Certificate, delegation, revocation, answerTo, heldAfter, isRefused}

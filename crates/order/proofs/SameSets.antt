@@ -14,7 +14,7 @@ use Rattle.rules.specs.OneClosure.{ListedIn, RestsOnClosure}
 use Rattle.rules.proofs.Derivations.Monotone.{mono}
 use Rattle.rules.proofs.Evaluation.Listing.{lists-same}
 use Rattle.rules.proofs.Stores.OneClosure as rules
-use Rattle.keyline.specs.Power.{rankOf}
+use Rattle.power_levels.specs.Power.{rankOf}
 use Rattle.codec.specs.Delegation.{decoded}
 use Rattle.codec.specs.declared.delegation.Decoded.{Decoded}
 use Rattle.codec.specs.declared.delegation.Decoded.the-variants as reading

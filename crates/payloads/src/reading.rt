@@ -17,8 +17,8 @@ fn found(payload: &[u8]) {
     match codec::delegation::decode(payload) {
         Decoded::Refused(r) => crate::print::refusal(r),
         Decoded::Accepted(p, cited) => {
-            crate::print::byte(b": accepted ", keyline::power::byte(p));
-            crate::print::byte(b" of rank ", keyline::power::rank(p));
+            crate::print::byte(b": accepted ", power_levels::power::byte(p));
+            crate::print::byte(b" of rank ", power_levels::power::rank(p));
             crate::print::byte(b", cited ", cited as u8);
         }
     }

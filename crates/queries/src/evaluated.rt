@@ -34,7 +34,7 @@ impl Evaluated {
         requires { ⌜ GoodEvaluated self ⌝ }
         ensures { λ r. ⌜ PositivePower (heldBy self) (now (subject .entry)) (now (audience .entry)) r ⌝ }
     {
-        powers::power::positive_power(self.store, self.evaluation, subject, audience)
+        powers::positive_power(self.store, self.evaluation, subject, audience)
     }
 
     // The audience's power over the subject.
@@ -42,7 +42,7 @@ impl Evaluated {
         requires { ⌜ GoodEvaluated self ⌝ }
         ensures { λ r. ⌜ EffectivePower (heldBy self) (now (subject .entry)) (now (audience .entry)) r ⌝ }
     {
-        powers::power::effective_power(self.store, self.evaluation, subject, audience)
+        powers::effective_power(self.store, self.evaluation, subject, audience)
     }
 
     // What the delegation conveys.
@@ -50,7 +50,7 @@ impl Evaluated {
         requires { ⌜ GoodEvaluated self ⌝ }
         ensures { λ r. ⌜ ConveyedPower (heldBy self) (now (digest .entry)) r ⌝ }
     {
-        powers::power::conveyed_power(self.store, self.evaluation, digest)
+        powers::conveyed_power(self.store, self.evaluation, digest)
     }
 
     // Live, revoked or unsupported.
@@ -58,7 +58,7 @@ impl Evaluated {
         requires { ⌜ GoodEvaluated self ⌝ }
         ensures { λ r. ⌜ StandingAnswer (heldBy self) (now (digest .entry)) r ⌝ }
     {
-        powers::standing::standing(self.store, self.evaluation, digest)
+        standings::standing(self.store, self.evaluation, digest)
     }
 
     // Whether the delegation is live.
@@ -66,7 +66,7 @@ impl Evaluated {
         requires { ⌜ GoodEvaluated self ⌝ }
         ensures { λ r. ⌜ IsLive (heldBy self) (now (digest .entry)) r ⌝ }
     {
-        powers::standing::is_live(self.store, self.evaluation, digest)
+        standings::is_live(self.store, self.evaluation, digest)
     }
 
     // The members of the subject, ascending: keys in one buffer, power bytes in another. The count comes from ones.

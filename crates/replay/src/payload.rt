@@ -3,8 +3,8 @@ use crate::fields;
 use crate::tally::Tally;
 use codec::delegation::Decoded;
 use keyline::limits::DIGEST_LENGTH;
-use keyline::power::Power;
 use keyline::refusal::Refusal;
+use power_levels::power::Power;
 
 // The longest payload that is taken.
 const ROOM: usize = 2048;
@@ -79,7 +79,7 @@ fn refuses(line: &[u8], why: Refusal) -> bool {
 
 fn accepts(line: &[u8], power: Power, cited: bool) -> bool {
     let accepted = fields::is(fields::field(line, 2), b'0');
-    let level = fields::is(fields::field(line, 3), keyline::power::byte(power));
+    let level = fields::is(fields::field(line, 3), power_levels::power::byte(power));
     let absent = fields::is(fields::field(line, 4), b'-');
     accepted & level & (absent != cited)
 }

@@ -11,7 +11,7 @@ use native.Mathlib.Nat.{le-of-suc-le-suc, not-suc-le-zero}
 use lib.ListN.{length, take, drop, getD, set, length-append, length-drop}
 use lib.Seq.{take-suc, take-suc-set, take-set-le, take-append-seam, drop-append-seam, drop-drop, drop-cons, getD-drop, set-at}
 use borrow.Rule.Slice.PartMut.{putMid}
-use Rattle.keyline.specs.Bytes.{front}
+use Rattle.lent.specs.Bytes.{front}
 use Rattle.rules.specs.Rules.{Ascending, done, before, Lists}
 use Rattle.rules.proofs.Evaluation.Listing.{lists-same}
 use Rattle.runs.specs.Bytes.{Bytes, Less, runLength, runAt, joined}

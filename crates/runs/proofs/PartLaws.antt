@@ -10,7 +10,7 @@ use lib.ListN.{length, take, drop, getD, set, length-append, length-take, length
 use lib.Seq.{length-take-le, take-add, take-at, drop-at, take-append-le, drop-append-le, drop-drop, take-take, getD-take, getD-drop, getD-at, take-suc, drop-cons, set-at}
 use lib.Dec.{eqb}
 use borrow.Author.Tests.{eqb-true, eqb-false}
-use Rattle.keyline.specs.Bytes.{put}
+use Rattle.lent.specs.Bytes.{put}
 use Rattle.runs.specs.Bytes.{Bytes, runLength, runAt}
 use Rattle.runs.specs.Table.{tabulate, order}
 

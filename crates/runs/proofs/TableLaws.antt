@@ -8,7 +8,7 @@ use lib.ListN.{length, take, drop, getD, length-map, length-append, List·getD-a
 use lib.Seq.{getD-at}
 use lib.Dec.{ltb}
 use borrow.Author.Tests.{lt-ltb, le-ltb}
-use Rattle.keyline.specs.Bytes.{put}
+use Rattle.lent.specs.Bytes.{put}
 use Rattle.rules.specs.Rules.{Ascending, done}
 use Rattle.runs.specs.Bytes.{Bytes, Less, runLength, runAt, eqBytes, ltBytes}
 use Rattle.runs.specs.Members.{place, has, fresh}

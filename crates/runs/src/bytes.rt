@@ -2,7 +2,7 @@
 ghost use mathlib.Core.Path.{_≡_};
 ghost use Prim.Native.Nat.{_+_, _*_, _≤_};
 ghost use lib.ListN.{length};
-ghost use Rattle.keyline.specs.Bytes.{put};
+ghost use Rattle.lent.specs.Bytes.{put};
 ghost use Rattle.runs.specs.Bytes.{runLength, runAt, eqBytes, ltBytes};
 
 // The length of a key, and of a digest.

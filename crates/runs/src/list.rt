@@ -9,7 +9,7 @@ ghost use mathlib.Core.Bool.{cond};
 ghost use mathlib.Core.List.{map};
 ghost use Prim.Native.Nat.{_≤_};
 ghost use lib.ListN.{length, take};
-ghost use Rattle.keyline.specs.Bytes.{front};
+ghost use Rattle.lent.specs.Bytes.{front};
 ghost use Rattle.runs.specs.Bytes.{runAt, joined};
 ghost use Rattle.runs.specs.Table.{GoodRuns, order, largeLimit};
 ghost use Rattle.runs.specs.Chosen.{picked, Chose, Listable, Valued, valuesAt};

@@ -7,7 +7,7 @@ ghost use mathlib.Core.Path.{_≡_};
 ghost use Prim.Native.Nat.{_+_, _-_, _<_, _≤_};
 ghost use mathlib.Core.List.{_∷_};
 ghost use lib.ListN.{length, take, drop};
-ghost use Rattle.keyline.specs.Bytes.{put};
+ghost use Rattle.lent.specs.Bytes.{put};
 ghost use Rattle.runs.specs.Members.{place};
 ghost use Rattle.runs.specs.Sorted.{sorted, spot};
 ghost use Rattle.runs.specs.Table.{smallLimit, largeLimit, runs, GoodRuns, Room, Pushed, Internable, InternedAs};

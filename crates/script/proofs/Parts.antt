@@ -6,8 +6,8 @@ use native.Mathlib.Omega.{arith}
 use lib.ListN.{length, take, drop, length-drop, length-append, length-replicate, replicate-append-replicate, drop-of-length-le}
 use lib.Seq.{length-take-le, take-at, drop-at, take-append-add}
 use borrow.Rule.Slice.PartMut.{putMid, midOf}
-use Rattle.keyline.specs.Bytes.{put, putWithin}
-use Rattle.keyline.proofs.Fronts.{put-within}
+use Rattle.lent.specs.Bytes.{put, putWithin}
+use Rattle.lent.proofs.Fronts.{put-within}
 use Rattle.runs.specs.Bytes.{Bytes}
 use Rattle.wire.specs.Reply.{headLength, headOf}
 use Rattle.wire.specs.Request.{otherLimit, headerLength, requestOf, firstOf, secondOf, thirdOf}

@@ -29,8 +29,8 @@ pub fn put(out: &mut [u8], room: usize, r: Reply, other: &[u8])
     ensures { λ _. ⌜ now (out .exit) ≡ inPlace r (roomIn room (now (out .entry))) (now (other .entry)) ⌝ }
 {
     let head = reply::head(r);
-    keyline::bytes::put_at(out, 0, &head);
-    keyline::bytes::put_at(out, HEAD + room, other);
+    lent::bytes::put_at(out, 0, &head);
+    lent::bytes::put_at(out, HEAD + room, other);
 }
 
 fn state_in(

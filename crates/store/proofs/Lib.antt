@@ -1,6 +1,2 @@
 pub mod MadeLaws
 pub mod ViewLaws
-pub mod AnswerLaws
-pub mod KeyLaws
-pub mod NextLaws
-pub mod InsertionLaws

@@ -2,7 +2,7 @@
 -- whoever knows the parts of two certificates (NextLaws here, and the crates above) needs just this to know them equal.
 use mathlib.Core.Path.{_≡_}
 use mathlib.Core.List.{List}
-use Rattle.keyline.specs.declared.power.Power.{Power}
+use Rattle.power_levels.specs.declared.power.Power.{Power}
 use Rattle.runs.specs.Bytes.{Bytes}
 use Rattle.tables.specs.Committed.{Delegation, Revocation, Committed}
 

@@ -1,7 +1,6 @@
--- What a store's value stands for, and what holds of every store. Rests on tables' Columns and Insertion.
+-- What a store's value stands for, and what holds of every store. Rests on tables' Columns.
 use Prim.Native.Nat.{ℕ, _+_, _*_}
 use mathlib.Core.Path.{_≡_}
-use mathlib.Core.Bool.{false}
 use lib.ListN.{length}
 use Rattle.runs.specs.Bytes.{runLength}
 use Rattle.runs.specs.Members.{SameRuns}
@@ -9,12 +8,9 @@ use Rattle.runs.specs.Table.{tabulate, runs, GoodRuns}
 use Rattle.keyline.specs.Limits.{keyLimit, delegationLimit, revocationLimit}
 use Rattle.tables.specs.Committed.{Committed, keysIn}
 use Rattle.tables.specs.Columns.{delegationAt, revocationAt, Places, Ranks}
-use Rattle.tables.specs.Insertion.{isAdded, settled}
-use Rattle.tables.specs.declared.answer.Answer.{Answer}
 use Rattle.tables.specs.declared.delegations.Delegations.{Delegations}
 use Rattle.tables.specs.declared.revocations.Revocations.{Revocations}
 use Rattle.store.specs.declared.Store.{Store}
-use Rattle.store.specs.declared.Inserted.{Inserted}
 
 -- the certificates that a store holds
 unfoldable pub committed : Store → Committed
@@ -46,10 +42,3 @@ pub record GoodStore (s : Store) : Type 0 where
   pub delegations : GoodDelegations (s .keys .count) (s .delegations)
   pub revocations : GoodRevocations (s .keys .count) (s .revocations)
   pub version : s .version ≡ s .delegations .count + s .revocations .count
-
--- an insertion into s gave the answer a; where that is Added, the store holds `new`, and else it is s as it was
-pub record Insertion (s : Store) (r : Inserted) (a : Answer) (new : Committed) : Type 0 where
-  pub answer : r .answer ≡ a
-  pub good : GoodStore (r .store)
-  pub held : committed (r .store) ≡ settled a (committed s) new
-  pub kept : isAdded a ≡ false → r .store ≡ s

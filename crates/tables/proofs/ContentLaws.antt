@@ -8,11 +8,11 @@ use native.Mathlib.Omega.{arith}
 use lib.ListN.{length}
 use lib.Dec.{eqb}
 use borrow.Author.Tests.{eq-eqb, eqb-true, eqb-false}
-use Rattle.keyline.specs.Power.{byteOf, rankOf, levelOf}
+use Rattle.power_levels.specs.Power.{byteOf, rankOf, levelOf}
 use Rattle.codec.specs.Delegation.{decoded, encoded, tagFor}
-use Rattle.keyline.specs.declared.power.Power.{Power}
-use Rattle.keyline.specs.declared.power.Power.the-variants.{Relay, Read, Edit, Admin}
-use Rattle.keyline.specs.declared.power.Level.the-variants.{Is, Unknown}
+use Rattle.power_levels.specs.declared.power.Power.{Power}
+use Rattle.power_levels.specs.declared.power.Power.the-variants.{Relay, Read, Edit, Admin}
+use Rattle.power_levels.specs.declared.power.Level.the-variants.{Is, Unknown}
 use Rattle.codec.proofs.Parts.{parts}
 use Rattle.codec.specs.declared.delegation.Decoded.the-variants as reading
 use Rattle.runs.specs.Bytes.{Bytes, eqBytes}
@@ -20,7 +20,7 @@ use Rattle.runs.proofs.BoolLaws.{both-true}
 use Rattle.runs.proofs.ByteLaws.{eq-true, eq-refl}
 use Rattle.tables.specs.Committed.{Delegation, Revocation, sameContent, sameRevoked, sameParts, payloadOf}
 use Rattle.tables.specs.Insertion.{delegationFrom}
-use Rattle.keyline.specs.Power.{levelCount}
+use Rattle.power_levels.specs.Power.{levelCount}
 use Rattle.tables.specs.Columns.{powerOf}
 
 -- ---- runs of one length, with others behind them

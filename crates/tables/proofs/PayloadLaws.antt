@@ -7,7 +7,7 @@ use native.Mathlib.Omega.{arith}
 use lib.ListN.{length, take, drop, length-drop}
 use lib.Seq.{length-take-le}
 use Rattle.codec.specs.Delegation.{decoded, citationOf}
-use Rattle.keyline.specs.declared.power.Power.{Power}
+use Rattle.power_levels.specs.declared.power.Power.{Power}
 use Rattle.codec.specs.declared.delegation.Decoded.the-variants as reading
 use Rattle.codec.proofs.Reading.{sound}
 use Rattle.runs.specs.Bytes.{Bytes}

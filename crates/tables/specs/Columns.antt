@@ -5,13 +5,13 @@ use mathlib.Core.Bool.{Bool, false, cond}
 use mathlib.Core.List.{List, []}
 use lib.ListN.{length, getD}
 use lib.Dec.{eqb}
-use Rattle.keyline.specs.Power.{rankOf}
-use Rattle.keyline.specs.declared.power.Power.{Power}
-use Rattle.keyline.specs.declared.power.Power.the-variants.{Relay, Read, Edit, Admin}
+use Rattle.power_levels.specs.Power.{rankOf}
+use Rattle.power_levels.specs.declared.power.Power.{Power}
+use Rattle.power_levels.specs.declared.power.Power.the-variants.{Relay, Read, Edit, Admin}
 use Rattle.places.specs.declared.KeyPlace.{KeyPlace}
 use Rattle.runs.specs.Bytes.{Bytes, runAt}
 use Rattle.keyline.specs.Limits.{keyLimit}
-use Rattle.keyline.specs.Power.{levelCount}
+use Rattle.power_levels.specs.Power.{levelCount}
 use Rattle.tables.specs.Committed.{Delegation, Revocation}
 use Rattle.tables.specs.declared.delegations.Delegations.{Delegations}
 use Rattle.tables.specs.declared.delegations.DelegationRow.{DelegationRow}

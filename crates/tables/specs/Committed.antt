@@ -5,10 +5,10 @@ use mathlib.Core.Bool.{Bool, false, cond}
 use mathlib.Core.List.{List, [], _∷_, _++_, map}
 use lib.ListN.{length, getD}
 use lib.Dec.{eqb}
-use Rattle.keyline.specs.Power.{byteOf, rankOf}
+use Rattle.power_levels.specs.Power.{byteOf, rankOf}
 use Rattle.codec.specs.Delegation.{encoded}
-use Rattle.keyline.specs.declared.power.Power.{Power}
-use Rattle.keyline.specs.declared.power.Power.the-variants.{Relay}
+use Rattle.power_levels.specs.declared.power.Power.{Power}
+use Rattle.power_levels.specs.declared.power.Power.the-variants.{Relay}
 use Rattle.runs.specs.Bytes.{Bytes, eqBytes}
 use Rattle.runs.specs.Members.{place, fresh}
 

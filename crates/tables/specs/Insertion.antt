@@ -5,9 +5,9 @@ use mathlib.Core.Bool.{Bool, true, false, cond}
 use mathlib.Core.List.{List, [], _∷_, _++_}
 use lib.ListN.{length, take, drop}
 use lib.Dec.{ltb, eqb}
-use Rattle.keyline.specs.Power.{rankOf}
+use Rattle.power_levels.specs.Power.{rankOf}
 use Rattle.codec.specs.Delegation.{decoded, citationOf}
-use Rattle.keyline.specs.declared.power.Power.{Power}
+use Rattle.power_levels.specs.declared.power.Power.{Power}
 use Rattle.codec.specs.declared.delegation.Decoded.{Decoded}
 use Rattle.codec.specs.declared.delegation.Decoded.the-variants as reading
 use Rattle.keyline.specs.declared.refusal.Refusal.the-variants.{BadLength, Conflict, FullDelegations, FullRevocations, FullKeys}

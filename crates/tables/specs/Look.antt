@@ -5,7 +5,7 @@ use mathlib.Core.Bool.{cond}
 use mathlib.Core.List.{[]}
 use lib.ListN.{length}
 use lib.Dec.{ltb}
-use Rattle.keyline.specs.declared.power.Power.{Power}
+use Rattle.power_levels.specs.declared.power.Power.{Power}
 use Rattle.keyline.specs.declared.refusal.Refusal.the-variants.{FullKeys}
 use Rattle.places.specs.declared.KeyPlace.{KeyPlace}
 use Rattle.places.specs.declared.DelegationPlace.{DelegationPlace}
@@ -13,7 +13,7 @@ use Rattle.places.specs.declared.RevocationPlace.{RevocationPlace}
 use Rattle.runs.specs.Bytes.{Bytes, runLength, runAt}
 use Rattle.runs.specs.Table.{runs}
 use Rattle.keyline.specs.Limits.{keyLimit}
-use Rattle.keyline.specs.Power.{levelCount}
+use Rattle.power_levels.specs.Power.{levelCount}
 use Rattle.tables.specs.Committed.{Delegation, Revocation}
 use Rattle.tables.specs.Columns.{rowSays}
 use Rattle.tables.specs.Insertion.{Seen}

@@ -6,11 +6,11 @@ use keyline::limits::DIGEST_LENGTH;
 use keyline::limits::KEY_LENGTH;
 use keyline::limits::KEY_LIMIT;
 use keyline::limits::REVOCATION_LIMIT;
-use keyline::power::Power;
 use keyline::refusal::Refusal;
 use places::DelegationPlace;
 use places::KeyPlace;
 use places::RevocationPlace;
+use power_levels::power::Power;
 use runs::bytes;
 ghost use mathlib.Core.Path.{_≡_};
 ghost use Prim.Native.Nat.{_<_, _≤_};
@@ -85,7 +85,7 @@ fn same_content<'a>(
     if !bytes::same_at(keys, s.0, subject) {
         return false;
     }
-    if row.power != keyline::power::rank(power) {
+    if row.power != power_levels::power::rank(power) {
         return false;
     }
     if row.cited {

@@ -12,7 +12,7 @@ ghost use mathlib.Core.Bool.{false, cond};
 ghost use Prim.Native.Nat.{_<_, _*_};
 ghost use lib.ListN.{length, getD, set};
 ghost use lib.Dec.{eqb};
-ghost use Rattle.keyline.specs.Bytes.{put};
+ghost use Rattle.lent.specs.Bytes.{put};
 ghost use Rattle.runs.specs.Bytes.{runLength};
 ghost use Rattle.runs.specs.Members.{place};
 ghost use Rattle.runs.specs.Table.{runs, GoodRuns};

@@ -10,7 +10,7 @@ use runs::table::SMALL_TABLE;
 ghost use mathlib.Core.Path.{_≡_};
 ghost use Prim.Native.Nat.{_<_, _*_};
 ghost use lib.ListN.{length, getD, set};
-ghost use Rattle.keyline.specs.Bytes.{put};
+ghost use Rattle.lent.specs.Bytes.{put};
 ghost use Rattle.runs.specs.Bytes.{runLength};
 ghost use Rattle.runs.specs.Members.{place};
 ghost use Rattle.runs.specs.Table.{runs, GoodRuns};

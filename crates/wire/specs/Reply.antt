@@ -3,7 +3,7 @@
 use Prim.Native.Nat.{ℕ, _/_, _%_}
 use mathlib.Core.Bool.{Bool, cond}
 use mathlib.Core.List.{List, [], _∷_}
-use Rattle.keyline.specs.Power.{byteOf}
+use Rattle.power_levels.specs.Power.{byteOf}
 use Rattle.keyline.specs.Refusal.{numberOf, besideOf}
 use Rattle.keyline.specs.declared.refusal.Refusal.{Refusal}
 use Rattle.tables.specs.declared.answer.Answer.{Answer}

@@ -116,7 +116,7 @@ pub fn powered(answer: Powered) -> Reply
 {
     match answer {
         Powered::Level(p) => {
-            let byte = keyline::power::byte(p);
+            let byte = power_levels::power::byte(p);
             valued(byte as usize)
         }
         Powered::Nothing => valued(0),

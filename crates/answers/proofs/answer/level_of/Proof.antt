@@ -3,7 +3,7 @@ use Prim.Native.Nat.{ℕ, _≤_}
 use mathlib.Core.Path.{_≡_, subst, sym}
 use native.Mathlib.Omega.{arith}
 use Rattle.rules.specs.Rows.{levelOf}
-use Rattle.keyline.specs.declared.power.Power.the-variants.{Relay, Read, Edit, Admin}
+use Rattle.power_levels.specs.declared.power.Power.the-variants.{Relay, Read, Edit, Admin}
 use Rattle.answers.specs.Answers.{LevelIs, level, no-level}
 use Rattle.answers.specs.declared.answer.Powered.{Powered}
 use Rattle.answers.proofs.answer.level_of.Statement.{statement}

@@ -1,8 +1,8 @@
 -- `write_parts` leaves the payload at the front: four runs, each put behind what stands there already.
 use denote.Ref.{now}
 use Rattle.codec.specs.Delegation.{encoded}
-use Rattle.keyline.proofs.Fronts.{parts-front}
 use borrow.Author.Needs.{needs}
+use Rattle.codec.proofs.FourWrites.{parts-front}
 use Rattle.codec.proofs.delegation.write_parts.Statement.{statement}
 use Rattle.codec.proofs.delegation.write_parts.Tie as tie
 

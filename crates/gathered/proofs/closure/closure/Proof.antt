@@ -2,7 +2,7 @@
 use mathlib.Core.Path.{sym}
 use native.Mathlib.Omega.{arith}
 use denote.Ref.{now}
-use Rattle.keyline.specs.Bytes.{front}
+use Rattle.lent.specs.Bytes.{front}
 use Rattle.runs.specs.Bytes.{joined}
 use Rattle.keyline.specs.Limits.{delegationLimit, revocationLimit}
 use Rattle.store.specs.Store.{committed}

@@ -3,7 +3,7 @@ use mathlib.Core.Path.{sym}
 use native.Mathlib.Omega.{arith}
 use denote.Ref.{now}
 use Rattle.keyset.specs.Word.{width}
-use Rattle.keyline.specs.Bytes.{front}
+use Rattle.lent.specs.Bytes.{front}
 use Rattle.runs.specs.Bytes.{joined}
 use Rattle.store.specs.Store.{committed}
 use Rattle.lists.specs.declared.write.Listed.the-variants as listed

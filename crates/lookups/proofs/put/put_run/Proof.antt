@@ -3,8 +3,8 @@ use mathlib.Core.Path.{_≡_, refl, _∙_}
 use mathlib.Core.List.{[]}
 use native.Mathlib.Omega.{arith}
 use denote.Ref.{now}
-use Rattle.keyline.specs.Bytes.{front}
-use Rattle.keyline.proofs.Fronts.{front-none}
+use Rattle.lent.specs.Bytes.{front}
+use Rattle.lent.proofs.Fronts.{front-none}
 use Rattle.runs.specs.Bytes.{runLength, runAt}
 use Rattle.runs.proofs.ByteLaws.{length-run, run-part}
 use Rattle.runs.proofs.ListLaws.{front-mid}

@@ -7,7 +7,7 @@ use lib.ListN.{length, take}
 use lib.Seq.{drop-drop}
 use borrow.Rule.Slice.PartMut.{putMid}
 use denote.Ref.{now}
-use Rattle.keyline.specs.Bytes.{put}
+use Rattle.lent.specs.Bytes.{put}
 use Rattle.runs.specs.Bytes.{Bytes, runLength}
 use Rattle.runs.proofs.PartLaws.{put-is}
 use borrow.Author.Needs.{needs}

@@ -8,8 +8,8 @@ use lib.ListN.{length, take, getD, length-take, length-drop, length-map}
 use lib.Seq.{length-take-le, getD-take}
 use borrow.Rule.Slice.PartMut.{putMid}
 use denote.Ref.{now}
-use Rattle.keyline.specs.Bytes.{front}
-use Rattle.keyline.proofs.Fronts.{front-none, length-front}
+use Rattle.lent.specs.Bytes.{front}
+use Rattle.lent.proofs.Fronts.{front-none, length-front}
 use Rattle.runs.specs.Bytes.{Bytes, runLength, runAt, joined}
 use Rattle.runs.specs.Chosen.{Listable}
 use Rattle.runs.proofs.ByteLaws.{length-run, run-part}

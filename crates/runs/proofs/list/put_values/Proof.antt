@@ -6,8 +6,8 @@ use native.Mathlib.Nat.{le-antisymm}
 use lib.ListN.{length, take, getD, set, length-set, length-map}
 use lib.Seq.{length-take-le}
 use denote.Ref.{now}
-use Rattle.keyline.specs.Bytes.{front}
-use Rattle.keyline.proofs.Fronts.{front-none}
+use Rattle.lent.specs.Bytes.{front}
+use Rattle.lent.proofs.Fronts.{front-none}
 use Rattle.runs.specs.Bytes.{Bytes}
 use Rattle.runs.specs.Chosen.{valuesAt}
 use Rattle.runs.proofs.ListLaws.{front-set, map-more}

@@ -5,7 +5,7 @@ use native.Mathlib.Omega.{arith}
 use native.Mathlib.Nat.{le-antisymm}
 use lib.ListN.{length, take, drop, getD, set, length-set, length-take, length-drop}
 use denote.Ref.{now}
-use Rattle.keyline.specs.Bytes.{put}
+use Rattle.lent.specs.Bytes.{put}
 use Rattle.runs.specs.Bytes.{Bytes}
 use Rattle.runs.proofs.PartLaws.{put-none, set-put, part-more, byte-before}
 use Rattle.runs.proofs.table.shift.Statement.{statement}

@@ -1,7 +1,7 @@
 -- The head at the front, the second room behind the first.
 use mathlib.Core.Path.{ap, _∙_}
 use denote.Ref.{now}
-use Rattle.keyline.specs.Bytes.{putWithin}
+use Rattle.lent.specs.Bytes.{putWithin}
 use Rattle.script.proofs.Parts.{in-place}
 use borrow.Author.Needs.{needs}
 use Rattle.script.proofs.answer.put.Statement.{statement}

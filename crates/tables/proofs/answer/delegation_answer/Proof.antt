@@ -8,7 +8,7 @@ use Rattle.codec.specs.declared.delegation.Decoded.the-variants as reading
 use Rattle.tables.specs.Insertion.{delegationCheck, acceptedAnswer, keysAnswer, Seen}
 use Rattle.tables.specs.Committed.{Delegation, sameContent}
 use Rattle.tables.specs.Look.{argument}
-use Rattle.keyline.specs.declared.power.Power.{Power}
+use Rattle.power_levels.specs.declared.power.Power.{Power}
 use Rattle.runs.specs.Bytes.{Bytes}
 use Rattle.tables.proofs.PayloadLaws.{parts}
 use borrow.Author.Needs.{needs}

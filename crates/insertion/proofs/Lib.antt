@@ -1,0 +1,4 @@
+pub mod AnswerLaws
+pub mod KeyLaws
+pub mod NextLaws
+pub mod InsertionLaws

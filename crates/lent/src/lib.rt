@@ -1,0 +1,2 @@
+// Bytes at a place of a lent buffer.
+pub mod bytes;
