@@ -1,5 +1,5 @@
 -- Nothing is lost on the way to C: the numbers handed over settle the answer that they were taken from, and 0 says that nothing was refused.
--- Rests on keyline's laws of numbers, levels and parts.
+-- Rests on the laws of numbers (keyline), of levels (power_levels) and of a payload's parts (codec).
 use Prim.Native.Nat.{ℕ}
 use mathlib.Core.Path.{_≡_, refl, ap}
 use mathlib.Core.Bool.{Bool, true, false}

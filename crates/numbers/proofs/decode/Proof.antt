@@ -1,4 +1,4 @@
--- `decode` hands over the parts of what keyline's reader finds, by the two cases of that.
+-- `decode` hands over the parts of what the payload's reader finds, by the two cases of that.
 use mathlib.Core.Path.{refl, sym, _∙_}
 use denote.Ref.{now}
 use Rattle.numbers.proofs.Settled.{citation-length}

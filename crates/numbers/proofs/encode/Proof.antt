@@ -1,4 +1,4 @@
--- `encode` hands over the parts of what keyline's writer answers, by the two cases of that, and leaves the buffer as that
+-- `encode` hands over the parts of what the payload's writer answers, by the two cases of that, and leaves the buffer as that
 -- leaves it.
 use mathlib.Core.Path.{refl, sym, _∙_}
 use borrow.Author.Needs.{needs}
