@@ -2,6 +2,7 @@
 pub mod Evaluate
 pub mod Says
 pub mod Lists
+pub mod Bytes
 pub mod Until
 pub mod Levels
 pub mod Coverage

@@ -1,25 +1,28 @@
 -- The plain evaluator's live delegations, caps and effective levels are those of the definitions.
--- Idea: rounds from Relay stay below every pre-fixed point (`cap-good`), and where nothing rises they are one: so they are the least.
-use Prim.Native.Nat.{ℕ, min, max, _≤_}
-use mathlib.Core.Bool.{Bool, true, false, not}
-use mathlib.Core.List.{List, [], List·Memᴰ, List·Memᴰ·not-nil}
+-- Idea: rounds from Relay stay below every pre-fixed point (`Good`), and where nothing rises they are one (`caps`): so they are the least.
+-- It rests on `least-prefix-caps`: a least pre-fixed point is the caps.
+use Prim.Native.Nat.{ℕ, max, _≤_}
+use mathlib.Core.Bool.{not}
+use mathlib.Core.List.{List, [], List·Memᴰ}
 use mathlib.Core.Logic.{inl, inr}
-use mathlib.Core.Path.{_≡_, refl}
+use mathlib.Core.Path.{_≡_}
 use native.Mathlib.Omega.{arith}
-use Rattle.rules.specs.Rules.{Stands, Answer, level, Nobody, Covered, LiveCovered, Usable, LiveUncovered, Live, Avoiding, Caps, PreFixed, Effective}
+use Rattle.rules.specs.Rules.{Stands, Answer, Nobody, LiveCovered, Usable, LiveUncovered, Live, Avoiding, Caps, PreFixed, Effective}
 use Rattle.rules.specs.Rows.{levelOf}
 use Rattle.rules.specs.Numbered.{Del, Holding, World, world}
 use Rattle.rules.proofs.Derivations.Monotone.{stands-top}
 use Rattle.rules.proofs.Evaluation.LiveSet.{live-held, live-eligible}
 use Rattle.rules.proofs.Evaluation.Caps.{below-raise, least-prefix-caps, capped-below}
-use Rattle.rules.proofs.Plain.Evaluate.{Table, keep, look, val, levels, byId, standsIn, excluded, covered, issuerIn, flagged, usable, liveFlags, isLiveUncovered, isLive, capIn, capOf, capRaise, capStep, capTable}
-use Rattle.rules.proofs.Plain.Says.{Says, holds, fails, says-true, true-says, alike, both, either}
-use Rattle.rules.proofs.Plain.Lists.{keep-in, keep-out}
-use Rattle.rules.proofs.Plain.Until.{Steady, until-steady}
-use Rattle.rules.proofs.Plain.Coverage.{says-stands, capped-above, Ks, Pos, Distinct, table-answer, says-covered, says-uncovered, issuer-answer}
-use Rattle.rules.proofs.Plain.Live.{Marked, Using, usable-out, usable-in, by-tab, says-live-covered, decide-live-covered}
+use Rattle.rules.proofs.Plain.Evaluate.{Table, Marks, keep, look, val, levels, byId, standsIn, excluded, covered, issuerIn, flagged, usable, liveFlags, isLiveUncovered, isLive, capIn, capOf, capRaise, capStep, capTable}
+use Rattle.rules.proofs.Plain.Says.{Says, cond-yes, cond-no, alike, both, either}
+use Rattle.rules.proofs.Plain.Lists.{Exactly, members, keep-exactly}
+use Rattle.rules.proofs.Plain.Bytes.{says-stands, capped-above}
+use Rattle.rules.proofs.Plain.Until.{Settled, rounds-settle}
+use Rattle.rules.proofs.Plain.Coverage.{nobody, Ks, Pos, Distinct, table-answer, says-covered, says-uncovered, issuer-answer}
+use Rattle.rules.proofs.Plain.Live.{by-tab, says-live-covered, decide-live-covered}
 
-unfoldable pub Flags : Holding → List (ℕ × ℕ)
+-- ## What the evaluation of a store has
+unfoldable pub Flags : Holding → Marks
 Flags S = liveFlags S (Ks S) (Pos S)
 
 unfoldable pub Under-all : Holding → Table
@@ -28,7 +31,7 @@ Under-all S = levels (Ks S) (usable S (Ks S) (Pos S) (Flags S)) [] (λ d. d .pow
 unfoldable pub Lives : Holding → List Del
 Lives S = keep (isLive S (Ks S) (Pos S) (Flags S) (Under-all S)) (S .dels)
 
-unfoldable pub CapT : Holding → List (ℕ × ℕ)
+unfoldable pub CapT : Holding → Marks
 CapT S = capTable S (Ks S) (Pos S) (Flags S) (Lives S)
 
 unfoldable pub cap-of : Holding → Del → ℕ
@@ -38,155 +41,123 @@ unfoldable pub Eff : Holding → Table
 Eff S = levels (Ks S) (Lives S) [] (cap-of S)
 
 module _ (S : Holding) (one : Distinct S) where
+  -- ## Live
   says-flag : (d : Del) → List·Memᴰ d (S .dels) → Says (LiveCovered (world S) d) (flagged (Flags S) d)
   unfolding Flags
   says-flag = says-live-covered S one
 
-  using-out : (d : Del) → Using S (Flags S) d → Usable (world S) d
-  unfolding Using Marked
-  using-out d (inl u) = inl u
-  using-out d (inr p) = inr (says-true (says-flag d (p .0)) (p .1))
+  usable-held : (d : Del) → Usable (world S) d → List·Memᴰ d (S .dels)
+  usable-held d (inl u) = u .held
+  usable-held d (inr v) = live-held (inr v)
 
-  using-in : (d : Del) → Usable (world S) d → Using S (Flags S) d
-  unfolding Using Marked
-  using-in d (inl u) = inl u
-  using-in d (inr v) = inr (live-held (inr v), true-says (says-flag d (live-held (inr v))) v)
+  usables : Exactly (Usable (world S)) (usable S (Ks S) (Pos S) (Flags S))
+  unfolding usable
+  usables = keep-exactly (λ d m. either (says-uncovered S d m) (says-flag d m)) usable-held members
 
   usable-answer : (r x : ℕ) → Answer (Stands World (Usable (world S)) Nobody (λ d. d .power) r x) (levelOf (val [] (Under-all S) r x))
   unfolding Under-all
-  usable-answer = table-answer S (usable S (Ks S) (Pos S) (Flags S)) [] (λ d. d .power) (λ d m. usable-out S (Flags S) d m .0)
-      (λ d m. using-out d (usable-out S (Flags S) d m .1)) (λ d u. usable-in S (Flags S) d (using-in d u)) (λ n m. List·Memᴰ·not-nil m) (λ n z. absurd z)
+  usable-answer = table-answer S (usable S (Ks S) (Pos S) (Flags S)) [] (λ d. d .power) usable-held usables nobody
 
-  pub says-live-uncovered : (d : Del) → List·Memᴰ d (S .dels) → Says (LiveUncovered (world S) d) (isLiveUncovered S (Ks S) (Pos S) (Under-all S) d)
+  says-live-uncovered : (d : Del) → List·Memᴰ d (S .dels) → Says (LiveUncovered (world S) d) (isLiveUncovered S (Ks S) (Pos S) (Under-all S) d)
   unfolding isLiveUncovered standsIn
-  says-live-uncovered d m = alike (λ p. record { uncovered = p .0; level = p .1 .level; stands = p .1 .holds }) (λ u. (u .uncovered, record { level = u .level; holds = u .stands }))
+  says-live-uncovered d m = alike
+      (λ p. record { uncovered = p .0; level = p .1 .level; stands = p .1 .holds })
+      (λ u. (u .uncovered, record { level = u .level; holds = u .stands }))
       (both (says-uncovered S d m) (says-stands (val [] (Under-all S) (d .subject) (d .issuer)) (usable-answer (d .subject) (d .issuer))))
 
   pub says-live : (d : Del) → List·Memᴰ d (S .dels) → Says (Live (world S) d) (isLive S (Ks S) (Pos S) (Flags S) (Under-all S) d)
   unfolding isLive
   says-live d m = either (says-live-uncovered d m) (says-flag d m)
 
-  lives-held : (d : Del) → List·Memᴰ d (Lives S) → List·Memᴰ d (S .dels)
+  lives : Exactly (Live (world S)) (Lives S)
   unfolding Lives
-  lives-held d m = keep-out (isLive S (Ks S) (Pos S) (Flags S) (Under-all S)) (S .dels) m .0
+  lives = keep-exactly says-live (λ d. live-held) members
 
-  lives-out : (d : Del) → List·Memᴰ d (Lives S) → Live (world S) d
-  unfolding Lives
-  lives-out d m = let h = keep-out (isLive S (Ks S) (Pos S) (Flags S) (Under-all S)) (S .dels) m in says-true (says-live d (h .0)) (h .1)
+  pub effective-answer : (r x : ℕ) → Answer (Effective (world S) (cap-of S) r x) (levelOf (val [] (Eff S) r x))
+  unfolding Eff
+  effective-answer = table-answer S (Lives S) [] (cap-of S) (λ d. live-held) lives nobody
 
-  lives-in : (d : Del) → Live (world S) d → List·Memᴰ d (Lives S)
-  unfolding Lives
-  lives-in d v = keep-in (isLive S (Ks S) (Pos S) (Flags S) (Under-all S)) (live-held v) (true-says (says-live d (live-held v)) v)
-
-  -- Caps.
-  cap-plain : (a : List (ℕ × ℕ)) (d : Del) → LiveUncovered (world S) d → capIn S (Ks S) (Pos S) a d ≡ d .power
-  unfolding capIn
-  cap-plain a d u = go (says-covered S d (u .uncovered .held))
-    where
-      go : {b : Bool} → Says (Covered (world S) d) b → elim b as (λ b. ℕ) [ true ↦ byId a 0 d | false ↦ d .power ] ≡ d .power
-      go (holds c) = absurd (u .uncovered .not c)
-      go (fails n) = refl
-
-  cap-covered : (a : List (ℕ × ℕ)) (d : Del) → LiveCovered (world S) d → capIn S (Ks S) (Pos S) a d ≡ byId a 0 d
-  unfolding capIn
-  cap-covered a d v = go (says-covered S d (live-held (inr v)))
-    where
-      go : {b : Bool} → Says (Covered (world S) d) b → elim b as (λ b. ℕ) [ true ↦ byId a 0 d | false ↦ d .power ] ≡ byId a 0 d
-      go (holds c) = refl
-      go (fails n) = absurd (n (live-eligible v .covered))
-
+  -- ## One round of caps
   avoiding-answer : (κ : Del → ℕ) (d : Del) → Answer (Avoiding (world S) κ d) (levelOf (issuerIn (Ks S) (Lives S) (excluded S (Ks S) (Pos S) d) κ d))
-  avoiding-answer κ d = issuer-answer S (Lives S) κ d lives-held lives-out lives-in
+  avoiding-answer κ d = issuer-answer S (Lives S) κ d (λ e. live-held) lives
 
-  raised : List (ℕ × ℕ) → List (ℕ × ℕ)
-  raised = capStep S (Ks S) (Pos S) (Flags S) (Lives S)
+  -- c by the marks so far, the cap by that c, and the round
+  abbrev κ-in : Marks → Del → ℕ
+  κ-in = capIn S (Ks S) (Pos S)
 
-  raised-at : (a : List (ℕ × ℕ)) {d : Del} → List·Memᴰ d (S .dels) → byId (raised a) 0 d ≡ capRaise S (Ks S) (Pos S) (Flags S) (Lives S) a d
-  unfolding raised capStep
-  raised-at a m = by-tab S one (capRaise S (Ks S) (Pos S) (Flags S) (Lives S) a) m
+  abbrev new : Marks → Del → ℕ
+  new = capOf S (Ks S) (Pos S) (Lives S)
 
-  raise-live : (a : List (ℕ × ℕ)) (d : Del) → List·Memᴰ d (S .dels) → LiveCovered (world S) d
-      → capRaise S (Ks S) (Pos S) (Flags S) (Lives S) a d ≡ max (byId a 0 d) (capOf S (Ks S) (Pos S) (Lives S) a d)
-  unfolding capRaise
-  raise-live a d m v = go (says-flag d m)
-    where
-      go : {b : Bool} → Says (LiveCovered (world S) d) b
-          → elim b as (λ b. ℕ) [ true ↦ max (byId a 0 d) (capOf S (Ks S) (Pos S) (Lives S) a d) | false ↦ byId a 0 d ] ≡ max (byId a 0 d) (capOf S (Ks S) (Pos S) (Lives S) a d)
-      go (holds w) = refl
-      go (fails n) = absurd (n v)
+  abbrev step : Marks → Marks
+  step = capStep S (Ks S) (Pos S) (Flags S) (Lives S)
 
-  cap-small : (a : List (ℕ × ℕ)) (d : Del) → capOf S (Ks S) (Pos S) (Lives S) a d ≤ 3
+  -- c is the power of an uncovered one, and what the marks say of a covered one
+  cap-plain : (a : Marks) (d : Del) → LiveUncovered (world S) d → κ-in a d ≡ d .power
+  unfolding capIn
+  cap-plain a d u = cond-no (says-covered S d (u .uncovered .held)) (byId a 0 d) (d .power) (u .uncovered .not)
+
+  cap-covered : (a : Marks) (d : Del) → LiveCovered (world S) d → κ-in a d ≡ byId a 0 d
+  unfolding capIn
+  cap-covered a d v = cond-yes (says-covered S d (live-held (inr v))) (byId a 0 d) (d .power) (live-eligible v .covered)
+
+  -- what a round makes of a live covered delegation
+  step-live : (a : Marks) (d : Del) → LiveCovered (world S) d → byId (step a) 0 d ≡ max (byId a 0 d) (new a d)
+  unfolding capStep capRaise
+  step-live a d v = let m = live-held (inr v) in
+      rw (by-tab S one (capRaise S (Ks S) (Pos S) (Flags S) (Lives S) a) m) (cond-yes (says-flag d m) (max (byId a 0 d) (new a d)) (byId a 0 d) v)
+
+  new-small : (a : Marks) (d : Del) → new a d ≤ 3
   unfolding capOf
-  cap-small a d = capped-below (d .power) (λ l s. omega (arith, stands-top s)) (avoiding-answer (capIn S (Ks S) (Pos S) a) d)
+  new-small a d = capped-below (d .power) (λ l s. omega (arith, stands-top s)) (avoiding-answer (κ-in a) d)
 
-  -- any raise: between what it was and the greater of it and the new cap
-  raise-between : (a : List (ℕ × ℕ)) (d : Del)
-      → (byId a 0 d ≤ capRaise S (Ks S) (Pos S) (Flags S) (Lives S) a d) × (capRaise S (Ks S) (Pos S) (Flags S) (Lives S) a d ≤ max (byId a 0 d) 3)
-  unfolding capRaise
-  raise-between a d = go (flagged (Flags S) d)
-    where
-      go : (b : Bool) → (byId a 0 d ≤ elim b as (λ b. ℕ) [ true ↦ max (byId a 0 d) (capOf S (Ks S) (Pos S) (Lives S) a d) | false ↦ byId a 0 d ])
-          × (elim b as (λ b. ℕ) [ true ↦ max (byId a 0 d) (capOf S (Ks S) (Pos S) (Lives S) a d) | false ↦ byId a 0 d ] ≤ max (byId a 0 d) 3)
-      go true = let h = cap-small a d in (omega arith, omega arith)
-      go false = (omega arith, omega arith)
+  -- ## Rounds
+  -- The marks are below every pre-fixed point.
+  record Good (a : Marks) : Type 0 where
+    below : (κ : Del → ℕ) → PreFixed (world S) κ → (d : Del) → LiveCovered (world S) d → byId a 0 d ≤ κ d
+    small : (d : Del) → LiveCovered (world S) d → byId a 0 d ≤ 3
 
-  record GoodCap (a : List (ℕ × ℕ)) : Type 0 where
-    below : (κ : Del → ℕ) → PreFixed (world S) κ → (d : Del) → LiveCovered (world S) d → capIn S (Ks S) (Pos S) a d ≤ κ d
-    small : (d : Del) → List·Memᴰ d (S .dels) → byId a 0 d ≤ 3
-
-  cap-good : (a : List (ℕ × ℕ)) → GoodCap a → GoodCap (raised a)
+  good-step : (a : Marks) → Good a → Good (step a)
   unfolding capOf
-  cap-good a g = record {
-    below = λ κ p d v. under κ p d v (live-held (inr v));
-    small = λ d m. omega (arith, raised-at a m, raise-between a d .1, g .small d m);
+  good-step a g = record {
+    below = λ κ p d v. omega (arith, step-live a d v, g .below κ p d v, under κ p d v);
+    small = λ d v. omega (arith, step-live a d v, g .small d v, new-small a d);
   }
     where
-      capped : (κ : Del → ℕ) → PreFixed (world S) κ → (d : Del) → LiveCovered (world S) d → capOf S (Ks S) (Pos S) (Lives S) a d ≤ κ d
-      capped κ p d v = capped-below (d .power) (λ l s. below-raise (cap-plain a) (g .below) p v s) (avoiding-answer (capIn S (Ks S) (Pos S) a) d)
+      under : (κ : Del → ℕ) → PreFixed (world S) κ → (d : Del) → LiveCovered (world S) d → new a d ≤ κ d
+      under κ p d v = capped-below (d .power)
+          (λ l s. below-raise (cap-plain a) (λ κ p e w. omega (arith, cap-covered a e w, g .below κ p e w)) p v s) (avoiding-answer (κ-in a) d)
 
-      under : (κ : Del → ℕ) → PreFixed (world S) κ → (d : Del) → LiveCovered (world S) d → List·Memᴰ d (S .dels) → capIn S (Ks S) (Pos S) (raised a) d ≤ κ d
-      under κ p d v m = omega (arith, cap-covered (raised a) d v, cap-covered a d v, raised-at a m, raise-live a d m v, g .below κ p d v, capped κ p d v)
-
-  cap-start : GoodCap []
+  start : Good []
   unfolding byId look
-  cap-start = record { below = λ κ p d v. omega (arith, cap-covered [] d v); small = λ d m. omega arith }
+  start = record { below = λ κ p d v. omega arith; small = λ d v. omega arith }
 
-  marked : List Del
-  marked = keep (flagged (Flags S)) (S .dels)
+  cs : List Del
+  cs = keep (flagged (Flags S)) (S .dels)
 
-  of-marked : {d : Del} → List·Memᴰ d marked → List·Memᴰ d (S .dels)
-  unfolding marked
-  of-marked m = keep-out (flagged (Flags S)) (S .dels) m .0
+  capped : Exactly (LiveCovered (world S)) cs
+  unfolding cs
+  capped = keep-exactly says-flag (λ d v. live-held (inr v)) members
 
-  in-marked : {d : Del} → LiveCovered (world S) d → List·Memᴰ d marked
-  unfolding marked
-  in-marked {d} v = keep-in (flagged (Flags S)) (live-held (inr v)) (true-says (says-flag d (live-held (inr v))) v)
+  ended : Settled Good cs (λ a. byId a 0) step (CapT S)
+  unfolding CapT capTable cs
+  ended = rounds-settle cs (λ a. byId a 0) 3 step good-step
+      (λ a g d m. omega (arith, step-live a d (capped .sound d m))) (λ a g d m. g .small d (capped .sound d m)) [] start
 
-  cap-rises : (a : List (ℕ × ℕ)) → GoodCap a → (d : Del) → List·Memᴰ d marked → byId a 0 d ≤ byId (raised a) 0 d
-  cap-rises a g d m = omega (arith, raised-at a (of-marked m), raise-between a d .0)
-
-  cap-done : Steady marked (λ a d. byId a 0 d) raised GoodCap 3 cap-good cap-rises (λ a g d m. g .small d (of-marked m)) (CapT S)
-  unfolding CapT capTable raised marked
-  cap-done = until-steady marked (λ a d. byId a 0 d) raised GoodCap 3 cap-good cap-rises (λ a g d m. g .small d (of-marked m)) [] cap-start
+  -- ## At the end
+  -- no cap rises any more
+  still : (d : Del) → LiveCovered (world S) d → new (CapT S) d ≤ byId (CapT S) 0 d
+  still d v = omega (arith, step-live (CapT S) d v, ended .rest d (capped .complete d v))
 
   pub caps : Caps (world S) (cap-of S)
   unfolding cap-of capOf
   caps = least-prefix-caps (cap-of S)
-      (record { rest = cap-plain (CapT S); above = λ d v l s. above d v l s (live-held (inr v)) })
-      (cap-done .is-good .below)
+      (record {
+        rest = cap-plain (CapT S);
+        above = λ d v l s. omega (arith, cap-covered (CapT S) d v, still d v, capped-above (d .power) (byte d) l (avoiding-answer (cap-of S) d) s);
+      })
+      (λ κ p d v. omega (arith, cap-covered (CapT S) d v, ended .is-good .below κ p d v))
       (decide-live-covered S one)
-      (λ d v. (levelOf (issuerIn (Ks S) (Lives S) (excluded S (Ks S) (Pos S) d) (cap-of S) d), avoiding-answer (cap-of S) d))
+      (λ d v. (levelOf (byte d), avoiding-answer (cap-of S) d))
     where
-      above : (d : Del) → LiveCovered (world S) d → (l : ℕ) → Avoiding (world S) (cap-of S) d l → List·Memᴰ d (S .dels) → min (d .power) l ≤ cap-of S d
-      above d v l s m = omega (
-        arith,
-        cap-covered (CapT S) d v,
-        cap-done .rest d (in-marked v),
-        raised-at (CapT S) m,
-        raise-live (CapT S) d m v,
-        capped-above (d .power) (issuerIn (Ks S) (Lives S) (excluded S (Ks S) (Pos S) d) (cap-of S) d) l (avoiding-answer (cap-of S) d) s,
-      )
-
-  pub effective-answer : (r x : ℕ) → Answer (Effective (world S) (cap-of S) r x) (levelOf (val [] (Eff S) r x))
-  unfolding Eff
-  effective-answer = table-answer S (Lives S) [] (cap-of S) lives-held lives-out lives-in (λ n m. List·Memᴰ·not-nil m) (λ n z. absurd z)
+      byte : Del → ℕ
+      byte d = issuerIn (Ks S) (Lives S) (excluded S (Ks S) (Pos S) d) (cap-of S) d

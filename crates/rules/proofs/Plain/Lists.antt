@@ -1,228 +1,201 @@
--- What the list functions of the plain evaluator do: any, keep, mem, best, tables, insertion into an ascending list, pairs.
-use Prim.Native.Nat.{ℕ, suc, _≤_, _<_}
-use mathlib.Core.Bool.{Bool, true, false}
-use mathlib.Core.List.{List, [], _∷_, List·Memᴰ, List·Memᴰ·head, List·Memᴰ·tail, List·Memᴰ·cases-cons, List·Memᴰ·not-nil}
+-- What the list functions of the plain evaluator do. `keep` has exactly what passes its test, in order (`keep-exactly`, `keep-lists`);
+-- a table answers by what was tabulated under the key (`look-tab`); insertion keeps a list ascending (`insert-ascending`); and where no
+-- value falls and the total does not rise, no value rises (`total-tight`).
+-- Idea: `keep` and `insert` are described once by how their result comes about (`Kept`, `Put`), and every fact is read off that.
+use Prim.Native.Nat.{ℕ, _≤_, _<_}
+use mathlib.Core.Bool.{Bool, true, false, cond}
+use mathlib.Core.List.{List, [], _∷_, List·Memᴰ, List·Memᴰ·head, List·Memᴰ·tail, List·Memᴰ·cases-cons, List·Memᴰ·not-nil, Memᴰ·cast}
 use mathlib.Core.Logic.{_⊎_, inl, inr}
-use mathlib.Core.Path.{_≡_, refl, sym, _∙_, subst}
-use borrow.Author.Tests.{ne-eqb}
-use lib.Dec.{eqb, ltb}
+use mathlib.Core.Path.{_≡_, refl, sym, _∙_, ap, subst}
+use lib.Dec.{eqb}
 use native.Mathlib.Omega.{arith}
-use Rattle.rules.specs.Rules.{Ascending, done, before}
+use Rattle.rules.specs.Rules.{Ascending, done, before, Lists}
 use Rattle.rules.specs.Numbered.{insert, Lower}
-use Rattle.rules.proofs.Plain.Evaluate.{any, keep, mem, best, tab, look, when, row, pairs}
-use Rattle.rules.proofs.Plain.Says.{Says, holds, fails, says-true, says-false, alike, says-eq, says-lt}
+use Rattle.rules.proofs.Plain.Evaluate.{any, keep, best, total, agree, mem, ascend, tab, look}
+use Rattle.rules.proofs.Plain.Says.{Says, holds, fails, told, says-true, true-says, alike, both, either, says, says-eq, says-lt}
 
--- Some member of xs is P.
+-- ## Tests of lists
+-- some member of xs is P
 pub record Some {A : Type 0} (P : A → Type 0) (xs : List A) : Type 0 where
   pub one : A
   pub mem : List·Memᴰ one xs
   pub is : P one
 
-module _ {A : Type 0} {P : A → Type 0} {p : A → Bool} where
-  pub says-any : (xs : List A) → ((x : A) → List·Memᴰ x xs → Says (P x) (p x)) → Says (Some P xs) (any p xs)
-  unfolding any
-  says-any [] f = fails (λ s. List·Memᴰ·not-nil (s .mem))
-  says-any (x ∷ xs) f = go (p x) (f x (List·Memᴰ·head refl)) (says-any xs (λ y m. f y (List·Memᴰ·tail m)))
-    where
-      out : ¬ P x → ¬ Some P xs → ¬ Some P (x ∷ xs)
-      out n m s = elim (List·Memᴰ·cases-cons (s .mem)) [ inl e ↦ n (rw e at (s .is)) | inr k ↦ m (record { one = s .one; mem = k; is = s .is }) ]
+pub says-any : {A : Type 0} {P : A → Type 0} {p : A → Bool} (xs : List A) → ((x : A) → List·Memᴰ x xs → Says (P x) (p x))
+    → Says (Some P xs) (any p xs)
+unfolding any
+says-any [] f = fails (λ s. List·Memᴰ·not-nil (s .mem))
+says-any {P = P} (x ∷ xs) f = alike there back (either (f x (List·Memᴰ·head refl)) (says-any xs (λ y m. f y (List·Memᴰ·tail m))))
+  where
+    there : P x ⊎ Some P xs → Some P (x ∷ xs)
+    there (inl p) = record { one = x; mem = List·Memᴰ·head refl; is = p }
+    there (inr s) = record { one = s .one; mem = List·Memᴰ·tail (s .mem); is = s .is }
 
-      go : (b : Bool) → Says (P x) b → Says (Some P xs) (any p xs) → Says (Some P (x ∷ xs)) (elim b as (λ b. Bool) [ true ↦ true | false ↦ any p xs ])
-      go true s t = holds (record { one = x; mem = List·Memᴰ·head refl; is = says-true s refl })
-      go false s t = alike (λ k. record { one = k .one; mem = List·Memᴰ·tail (k .mem); is = k .is }) (λ k. absurd-or k) t
-        where
-          absurd-or : Some P (x ∷ xs) → Some P xs
-          absurd-or k = elim (List·Memᴰ·cases-cons (k .mem)) [ inl e ↦ absurd (says-false s refl (rw e at (k .is))) | inr m ↦ record { one = k .one; mem = m; is = k .is } ]
-
-module _ {A : Type 0} (p : A → Bool) where
-  pub keep-in : {x : A} {xs : List A} → List·Memᴰ x xs → p x ≡ true → List·Memᴰ x (keep p xs)
-  unfolding keep
-  keep-in {x} (List·Memᴰ·head {x = y} {xs = xs} e) t = rw (rw e at t, keep) (List·Memᴰ·head e)
-  keep-in {x} (List·Memᴰ·tail {x = y} {xs = xs} m) t = go (p y) (keep-in m t)
-    where
-      go : (b : Bool) → List·Memᴰ x (keep p xs) → List·Memᴰ x (elim b as (λ b. List A) [ true ↦ y ∷ keep p xs | false ↦ keep p xs ])
-      go true k = List·Memᴰ·tail k
-      go false k = k
-
-  pub keep-out : {x : A} (xs : List A) → List·Memᴰ x (keep p xs) → List·Memᴰ x xs × (p x ≡ true)
-  unfolding keep
-  keep-out [] m = absurd (List·Memᴰ·not-nil m)
-  keep-out {x} (y ∷ ys) m = go (p y) refl m (keep-out ys)
-    where
-      go : (b : Bool) → p y ≡ b → List·Memᴰ x (elim b as (λ b. List A) [ true ↦ y ∷ keep p ys | false ↦ keep p ys ])
-          → (List·Memᴰ x (keep p ys) → List·Memᴰ x ys × (p x ≡ true)) → List·Memᴰ x (y ∷ ys) × (p x ≡ true)
-      go true e k f = elim (List·Memᴰ·cases-cons k) [ inl q ↦ (List·Memᴰ·head q, rw q e) | inr n ↦ (List·Memᴰ·tail (f n .0), f n .1) ]
-      go false e k f = (List·Memᴰ·tail (f k .0), f k .1)
-
-  pub keep-ascending : {L : A → A → Type 0} {xs : List A} → Ascending L xs → Ascending L (keep p xs)
-  unfolding keep
-  keep-ascending done = done
-  keep-ascending {L} (before {x = y} {xs = xs} a s) = go (p y) (keep-ascending s)
-    where
-      go : (b : Bool) → Ascending L (keep p xs) → Ascending L (elim b as (λ b. List A) [ true ↦ y ∷ keep p xs | false ↦ keep p xs ])
-      go true t = before (λ z m. a z (keep-out xs m .0)) t
-      go false t = t
+    back : Some P (x ∷ xs) → P x ⊎ Some P xs
+    back s = elim (List·Memᴰ·cases-cons (s .mem)) [ inl e ↦ inl (subst P e (s .is)) | inr m ↦ inr (record { one = s .one; mem = m; is = s .is }) ]
 
 pub says-mem : (n : ℕ) (xs : List ℕ) → Says (List·Memᴰ n xs) (mem n xs)
 unfolding mem
-says-mem n xs = alike (λ s. mem-cast (s .is) (s .mem)) (λ m. record { one = n; mem = m; is = refl }) (says-any xs (λ x m. says-eq n x))
-  where
-    mem-cast : {a b : ℕ} → a ≡ b → List·Memᴰ b xs → List·Memᴰ a xs
-    mem-cast e m = subst (λ x. List·Memᴰ x xs) (sym e) m
+says-mem n xs = alike (λ s. Memᴰ·cast (s .is) (s .mem)) (λ m. record { one = n; mem = m; is = refl }) (says-any xs (λ x m. says-eq n x))
 
--- The greatest value.
-module _ {A : Type 0} (f : A → ℕ) where
-  pub best-most : {x : A} {xs : List A} → List·Memᴰ x xs → f x ≤ best f xs
-  unfolding best
-  best-most {xs = y ∷ ys} (List·Memᴰ·head e) = rw e (omega arith)
-  best-most {xs = y ∷ ys} (List·Memᴰ·tail m) = let h = best-most m in omega arith
+-- all of the fields agree
+abbrev pub Agree : {A : Type 0} → List (A → ℕ) → A → A → Type 0
+Agree [] x y = Unit {0}
+Agree (f ∷ fs) x y = (f x ≡ f y) × Agree fs x y
 
-  pub best-some : (xs : List A) {l : ℕ} → best f xs ≡ suc l → Some (λ x. f x ≡ suc l) xs
-  unfolding best
-  best-some [] e = absurd (omega arith)
-  best-some (x ∷ xs) {l} e = go (says-eq (f x) (suc l)) (best-some xs)
-    where
-      go : {b : Bool} → Says (f x ≡ suc l) b → (best f xs ≡ suc l → Some (λ x. f x ≡ suc l) xs) → Some (λ x. f x ≡ suc l) (x ∷ xs)
-      go (holds h) k = record { one = x; mem = List·Memᴰ·head refl; is = h }
-      go (fails n) k = let s = k (omega arith) in record { one = s .one; mem = List·Memᴰ·tail (s .mem); is = s .is }
+pub says-agree : {A : Type 0} (fs : List (A → ℕ)) (x y : A) → Says (Agree fs x y) (agree fs x y)
+unfolding agree
+says-agree [] x y = holds tt
+says-agree (f ∷ fs) x y = both (says-eq (f x) (f y)) (says-agree fs x y)
 
-  pub best-bound : (xs : List A) (b : ℕ) → ((x : A) → List·Memᴰ x xs → f x ≤ b) → best f xs ≤ b
-  unfolding best
-  best-bound [] b h = omega arith
-  best-bound (x ∷ xs) b h = let k = best-bound xs b (λ y m. h y (List·Memᴰ·tail m)) in omega (arith, h x (List·Memᴰ·head refl))
+-- ## What is kept
+-- xs has all that are P and nothing else.
+pub record Exactly {A : Type 0} (P : A → Type 0) (xs : List A) : Type 0 where
+  pub sound : (x : A) → List·Memᴰ x xs → P x
+  pub complete : (x : A) → P x → List·Memᴰ x xs
 
--- Tables.
-module _ {A B : Type 0} (k : A → ℕ) (f : A → B) where
-  pub look-tab : (xs : List A) {x : A} (b : B) → ((y : A) → List·Memᴰ y xs → k y ≡ k x → y ≡ x) → List·Memᴰ x xs → look (tab k f xs) (k x) b ≡ f x
-  unfolding look tab
-  look-tab [] b d m = absurd (List·Memᴰ·not-nil m)
-  look-tab (y ∷ ys) {x} b d m = go (eqb (k y) (k x)) (says-eq (k y) (k x)) (λ m. look-tab ys b (λ z n. d z (List·Memᴰ·tail n)) m)
-    where
-      go : (t : Bool) → Says (k y ≡ k x) t → (List·Memᴰ x ys → look (tab k f ys) (k x) b ≡ f x)
-          → elim t as (λ t. B) [ true ↦ f y | false ↦ look (tab k f ys) (k x) b ] ≡ f x
-      go true (holds e) h = rw (d y (List·Memᴰ·head refl) e)
-      go false (fails n) h = h (elim (List·Memᴰ·cases-cons m) [ inl e ↦ absurd (n (rw e)) | inr q ↦ q ])
+pub exactly : {A : Type 0} {L : A → A → Type 0} {P : A → Type 0} {xs : List A} → Lists L P xs → Exactly P xs
+exactly h = record { sound = h .sound; complete = h .complete }
 
-  pub look-none : (xs : List A) (n : ℕ) (b : B) → ((y : A) → List·Memᴰ y xs → ¬ (k y ≡ n)) → look (tab k f xs) n b ≡ b
-  unfolding look tab
-  look-none [] n b h = refl
-  look-none (y ∷ ys) n b h = rw (ne-eqb (k y) n (h y (List·Memᴰ·head refl)), look) (look-none ys n b (λ z m. h z (List·Memᴰ·tail m)))
+-- A list has exactly its members.
+pub members : {A : Type 0} {xs : List A} → Exactly (λ x. List·Memᴰ x xs) xs
+members = record { sound = λ x m. m; complete = λ x m. m }
 
-pub when-suc : (b : Bool) {n l : ℕ} → when b n ≡ suc l → (b ≡ true) × (n ≡ suc l)
-unfolding when
-when-suc true e = (refl, e)
-when-suc false e = absurd (omega arith)
+pub listed : {A : Type 0} {L : A → A → Type 0} {xs : List A} → Ascending L xs → Lists L (λ x. List·Memᴰ x xs) xs
+listed s = record { ascending = s; sound = λ x m. m; complete = λ x m. m }
 
-pub when-true : {b : Bool} (n : ℕ) → b ≡ true → when b n ≡ n
-unfolding when
-when-true n e = rw e
+module _ {A : Type 0} (p : A → Bool) where
+  -- How a list comes to be kept.
+  data Kept : List A → List A → Type 0 where
+    end : Kept [] []
+    taken : {x : A} {xs ys : List A} → p x ≡ true → Kept xs ys → Kept (x ∷ xs) (x ∷ ys)
+    passed : {x : A} {xs ys : List A} → ¬ (p x ≡ true) → Kept xs ys → Kept (x ∷ xs) ys
 
-pub when-le : (b : Bool) (n : ℕ) → when b n ≤ n
-unfolding when
-when-le true n = omega arith
-when-le false n = omega arith
+  kept : (xs : List A) → Kept xs (keep p xs)
+  unfolding keep
+  kept [] = end
+  kept (x ∷ xs) = let r = keep p xs in told (λ b. Kept (x ∷ xs) (cond b (x ∷ r) r)) (says (p x)) (λ e. taken e (kept xs)) (λ n. passed n (kept xs))
 
--- Insertion into an ascending list.
+module _ {A : Type 0} {p : A → Bool} where
+  kept-out : {x : A} {xs ys : List A} → Kept p xs ys → List·Memᴰ x ys → List·Memᴰ x xs × (p x ≡ true)
+  kept-out (taken e k) (List·Memᴰ·head q) = (List·Memᴰ·head q, rw q e)
+  kept-out (taken e k) (List·Memᴰ·tail m) = let h = kept-out k m in (List·Memᴰ·tail (h .0), h .1)
+  kept-out (passed n k) m = let h = kept-out k m in (List·Memᴰ·tail (h .0), h .1)
+
+  kept-in : {x : A} {xs ys : List A} → Kept p xs ys → List·Memᴰ x xs → p x ≡ true → List·Memᴰ x ys
+  kept-in (taken e k) (List·Memᴰ·head q) t = List·Memᴰ·head q
+  kept-in (taken e k) (List·Memᴰ·tail m) t = List·Memᴰ·tail (kept-in k m t)
+  kept-in (passed n k) (List·Memᴰ·head q) t = absurd (n (ap p (sym q) ∙ t))
+  kept-in (passed n k) (List·Memᴰ·tail m) t = kept-in k m t
+
+  kept-ascending : {L : A → A → Type 0} {xs ys : List A} → Kept p xs ys → Ascending L xs → Ascending L ys
+  kept-ascending end done = done
+  kept-ascending (taken e k) (before a s) = before (λ z m. a z (kept-out k m .0)) (kept-ascending k s)
+  kept-ascending (passed n k) (before a s) = kept-ascending k s
+
+-- Of what is P, what passes a test of Q.
+module _ {A : Type 0} {P Q : A → Type 0} {p : A → Bool} (test : (x : A) → P x → Says (Q x) (p x)) (among : (x : A) → Q x → P x) where
+  pub keep-exactly : {xs : List A} → Exactly P xs → Exactly Q (keep p xs)
+  keep-exactly {xs} h = record {
+    sound = λ x m. let k = kept-out (kept p xs) m in says-true (test x (h .sound x (k .0))) (k .1);
+    complete = λ x q. kept-in (kept p xs) (h .complete x (among x q)) (true-says (test x (among x q)) q);
+  }
+
+  pub keep-lists : {L : A → A → Type 0} {xs : List A} → Lists L P xs → Lists L Q (keep p xs)
+  keep-lists {xs = xs} h = let e = keep-exactly (exactly h) in
+      record { ascending = kept-ascending (kept p xs) (h .ascending); sound = e .sound; complete = e .complete }
+
+-- ## Values
+-- The best is no lower than any.
+pub best-most : {A : Type 0} (f : A → ℕ) {x : A} {xs : List A} → List·Memᴰ x xs → f x ≤ best f xs
+unfolding best
+best-most f (List·Memᴰ·head e) = rw e (omega arith)
+best-most f (List·Memᴰ·tail m) = let h = best-most f m in omega arith
+
+module _ {A : Type 0} (f g : A → ℕ) where
+  -- Where no value falls, the total does not; and if it does not rise either, no value does.
+  pub total-le : (xs : List A) → ((x : A) → List·Memᴰ x xs → f x ≤ g x) → total f xs ≤ total g xs
+  unfolding total
+  total-le [] h = omega arith
+  total-le (x ∷ xs) h = omega (arith, h x (List·Memᴰ·head refl), total-le xs (λ y m. h y (List·Memᴰ·tail m)))
+
+  pub total-tight : {x : A} (xs : List A) → ((x : A) → List·Memᴰ x xs → f x ≤ g x) → total g xs ≤ total f xs → List·Memᴰ x xs → g x ≤ f x
+  unfolding total
+  total-tight (y ∷ ys) h t (List·Memᴰ·head e) = rw e (omega (arith, total-le ys (λ z m. h z (List·Memᴰ·tail m))))
+  total-tight (y ∷ ys) h t (List·Memᴰ·tail m) = total-tight ys (λ z m. h z (List·Memᴰ·tail m)) (omega (arith, h y (List·Memᴰ·head refl))) m
+
+-- ## Tables
+-- What a table has at n is P if each value under that key is, and the default where there is none.
+pub look-tab : {A B : Type 0} (k : A → ℕ) (f : A → B) (P : B → Type 0) (xs : List A) (n : ℕ) (b : B)
+    → (((y : A) → List·Memᴰ y xs → ¬ (k y ≡ n)) → P b) → ((y : A) → List·Memᴰ y xs → k y ≡ n → P (f y)) → P (look (tab k f xs) n b)
+unfolding look tab
+look-tab k f P [] n b z s = z (λ y m. absurd (List·Memᴰ·not-nil m))
+look-tab k f P (x ∷ xs) n b z s = told (λ t. P (cond t (f x) (look (tab k f xs) n b))) (says-eq (k x) n) (s x (List·Memᴰ·head refl))
+    (λ ne. look-tab k f P xs n b (λ g. z (λ y m e. elim (List·Memᴰ·cases-cons m) [ inl q ↦ ne (ap k (sym q) ∙ e) | inr m ↦ g y m e ]))
+    (λ y m. s y (List·Memᴰ·tail m)))
+
+-- ## Ascending lists
 module _ {A : Type 0} (k : A → ℕ) where
-  pub insert-out : (x : A) (ys : List A) {z : A} → List·Memᴰ z (insert k x ys) → (z ≡ x) ⊎ List·Memᴰ z ys
+  -- How x comes to stand in a list.
+  data Put (x : A) : List A → List A → Type 0 where
+    last : Put x [] (x ∷ [])
+    here : {y : A} {ys : List A} → k x < k y → Put x (y ∷ ys) (x ∷ y ∷ ys)
+    stands : {y : A} {ys : List A} → k x ≡ k y → Put x (y ∷ ys) (y ∷ ys)
+    later : {y : A} {ys zs : List A} → k y < k x → Put x ys zs → Put x (y ∷ ys) (y ∷ zs)
+
+  put : (x : A) (ys : List A) → Put x ys (insert k x ys)
   unfolding insert
-  insert-out x [] m = elim (List·Memᴰ·cases-cons m) [ inl e ↦ inl e | inr n ↦ absurd (List·Memᴰ·not-nil n) ]
-  insert-out x (y ∷ ys) {z} m = go (ltb (k x) (k y)) (eqb (k x) (k y)) m (insert-out x ys {z = z})
-    where
-      later : (z ≡ x) ⊎ List·Memᴰ z ys → (z ≡ x) ⊎ List·Memᴰ z (y ∷ ys)
-      later (inl e) = inl e
-      later (inr m) = inr (List·Memᴰ·tail m)
+  put x [] = last
+  put x (y ∷ ys) =
+      let rest : Bool → List A = λ t. elim t [ true ↦ y ∷ ys | false ↦ y ∷ insert k x ys ] in
+      told (λ s. Put x (y ∷ ys) (elim s as (λ s. List A) [ true ↦ x ∷ y ∷ ys | false ↦ rest (eqb (k x) (k y)) ])) (says-lt (k x) (k y)) here
+      (λ n. told (λ t. Put x (y ∷ ys) (rest t)) (says-eq (k x) (k y)) stands (λ ne. later (omega arith) (put x ys)))
 
-      go : (s t : Bool) → List·Memᴰ z (elim s as (λ s. List A) [ true ↦ x ∷ y ∷ ys | false ↦ elim t as (λ t. List A) [ true ↦ y ∷ ys | false ↦ y ∷ insert k x ys ] ])
-          → (List·Memᴰ z (insert k x ys) → (z ≡ x) ⊎ List·Memᴰ z ys) → (z ≡ x) ⊎ List·Memᴰ z (y ∷ ys)
-      go true t m h = List·Memᴰ·cases-cons m
-      go false true m h = inr m
-      go false false m h = elim (List·Memᴰ·cases-cons m) [ inl e ↦ inr (List·Memᴰ·head e) | inr n ↦ later (h n) ]
+module _ {A : Type 0} {k : A → ℕ} {x : A} where
+  put-in : {ys zs : List A} → Put k x ys zs → Some (λ z. k x ≡ k z) zs
+  put-in last = record { one = x; mem = List·Memᴰ·head refl; is = refl }
+  put-in (here l) = record { one = x; mem = List·Memᴰ·head refl; is = refl }
+  put-in (stands {y} e) = record { one = y; mem = List·Memᴰ·head refl; is = e }
+  put-in (later l p) = let s = put-in p in record { one = s .one; mem = List·Memᴰ·tail (s .mem); is = s .is }
 
-  pub insert-keeps : (x : A) {ys : List A} {z : A} → List·Memᴰ z ys → List·Memᴰ z (insert k x ys)
-  unfolding insert
-  insert-keeps x {ys = y ∷ ys} {z} m = go (ltb (k x) (k y)) (eqb (k x) (k y)) (List·Memᴰ·cases-cons m) (λ n. insert-keeps x {ys = ys} n)
-    where
-      go : (s t : Bool) → (z ≡ y) ⊎ List·Memᴰ z ys → (List·Memᴰ z ys → List·Memᴰ z (insert k x ys))
-          → List·Memᴰ z (elim s as (λ s. List A) [ true ↦ x ∷ y ∷ ys | false ↦ elim t as (λ t. List A) [ true ↦ y ∷ ys | false ↦ y ∷ insert k x ys ] ])
-      go true t c h = List·Memᴰ·tail m
-      go false true c h = m
-      go false false (inl e) h = List·Memᴰ·head e
-      go false false (inr n) h = List·Memᴰ·tail (h n)
+  put-keeps : {z : A} {ys zs : List A} → Put k x ys zs → List·Memᴰ z ys → List·Memᴰ z zs
+  put-keeps (here l) m = List·Memᴰ·tail m
+  put-keeps (stands e) m = m
+  put-keeps (later l p) (List·Memᴰ·head e) = List·Memᴰ·head e
+  put-keeps (later l p) (List·Memᴰ·tail m) = List·Memᴰ·tail (put-keeps p m)
 
-  pub insert-in : (x : A) (ys : List A) → Some (λ z. k z ≡ k x) (insert k x ys)
-  unfolding insert
-  insert-in x [] = record { one = x; mem = List·Memᴰ·head refl; is = refl }
-  insert-in x (y ∷ ys) = go (ltb (k x) (k y)) (eqb (k x) (k y)) (says-eq (k x) (k y)) (insert-in x ys)
-    where
-      go : (s t : Bool) → Says (k x ≡ k y) t → Some (λ z. k z ≡ k x) (insert k x ys)
-          → Some (λ z. k z ≡ k x) (elim s as (λ s. List A) [ true ↦ x ∷ y ∷ ys | false ↦ elim t as (λ t. List A) [ true ↦ y ∷ ys | false ↦ y ∷ insert k x ys ] ])
-      go true t c h = record { one = x; mem = List·Memᴰ·head refl; is = refl }
-      go false true (holds e) h = record { one = y; mem = List·Memᴰ·head refl; is = sym e }
-      go false false c h = record { one = h .one; mem = List·Memᴰ·tail (h .mem); is = h .is }
+  put-out : {z : A} {ys zs : List A} → Put k x ys zs → List·Memᴰ z zs → (z ≡ x) ⊎ List·Memᴰ z ys
+  put-out last m = List·Memᴰ·cases-cons m
+  put-out (here l) m = List·Memᴰ·cases-cons m
+  put-out (stands e) m = inr m
+  put-out (later l p) (List·Memᴰ·head e) = inr (List·Memᴰ·head e)
+  put-out (later l p) (List·Memᴰ·tail m) = elim (put-out p m) [ inl e ↦ inl e | inr n ↦ inr (List·Memᴰ·tail n) ]
 
+  put-ascending : {ys zs : List A} → Put k x ys zs → Ascending (Lower k) ys → Ascending (Lower k) zs
+  put-ascending last done = before (λ y m. absurd (List·Memᴰ·not-nil m)) done
+  put-ascending (here {y} {ys} l) (before a s) =
+      before {x = x} (λ z m. elim (List·Memᴰ·cases-cons {b = y} {l = ys} m) [ inl e ↦ rw e l | inr n ↦ omega (arith, a z n) ]) (before a s)
+  put-ascending (stands e) s = s
+  put-ascending (later {y} l p) (before a s) = before {x = y} (λ z m. elim (put-out p m) [ inl e ↦ rw e l | inr n ↦ a z n ]) (put-ascending p s)
+
+module _ {A : Type 0} (k : A → ℕ) where
   pub insert-ascending : (x : A) {ys : List A} → Ascending (Lower k) ys → Ascending (Lower k) (insert k x ys)
-  unfolding insert
-  insert-ascending x done = before (λ y m. absurd (List·Memᴰ·not-nil m)) done
-  insert-ascending x (before {x = y} {xs = ys} a s) = go (ltb (k x) (k y)) (says-lt (k x) (k y)) (eqb (k x) (k y)) (says-eq (k x) (k y)) (insert-ascending x s)
-    where
-      above : k x < k y → (z : A) → (z ≡ y) ⊎ List·Memᴰ z ys → k x < k z
-      above h z (inl e) = rw e h
-      above h z (inr n) = omega (arith, a z n)
-
-      rest : ¬ (k x < k y) → ¬ (k x ≡ k y) → (z : A) → (z ≡ x) ⊎ List·Memᴰ z ys → k y < k z
-      rest h n z (inl e) = rw e (omega arith)
-      rest h n z (inr m) = a z m
-
-      go : (s : Bool) → Says (k x < k y) s → (t : Bool) → Says (k x ≡ k y) t → Ascending (Lower k) (insert k x ys)
-          → Ascending (Lower k) (elim s as (λ s. List A) [ true ↦ x ∷ y ∷ ys | false ↦ elim t as (λ t. List A) [ true ↦ y ∷ ys | false ↦ y ∷ insert k x ys ] ])
-      go true (holds h) t u r = before (λ z m. above h z (List·Memᴰ·cases-cons m)) (before a s)
-      go false (fails h) true (holds e) r = before a s
-      go false (fails h) false (fails n) r = before (λ z m. rest h n z (insert-out x ys m)) r
+  insert-ascending x {ys} s = put-ascending (put k x ys) s
 
   -- In an ascending list one key has one place.
   pub ascending-one : {xs : List A} → Ascending (Lower k) xs → {x y : A} → List·Memᴰ x xs → List·Memᴰ y xs → k x ≡ k y → x ≡ y
-  ascending-one done m n e = absurd (List·Memᴰ·not-nil m)
-  ascending-one (before {x = z} {xs = zs} a s) {x} {y} m n e = go (List·Memᴰ·cases-cons m) (List·Memᴰ·cases-cons n) (λ m n. ascending-one s {x = x} {y = y} m n e)
-    where
-      go : (x ≡ z) ⊎ List·Memᴰ x zs → (y ≡ z) ⊎ List·Memᴰ y zs → (List·Memᴰ x zs → List·Memᴰ y zs → x ≡ y) → x ≡ y
-      go (inl p) (inl q) f = p ∙ sym q
-      go (inl p) (inr n) f = let h : k x < k y = rw p (a y n) in absurd (omega arith)
-      go (inr m) (inl q) f = let h : k y < k x = rw q (a x m) in absurd (omega arith)
-      go (inr m) (inr n) f = f m n
+  ascending-one (before a s) (List·Memᴰ·head p) (List·Memᴰ·head q) e = p ∙ sym q
+  ascending-one (before a s) {y = y} (List·Memᴰ·head p) (List·Memᴰ·tail n) e = absurd (omega (arith, a y n, ap k p))
+  ascending-one (before a s) {x} (List·Memᴰ·tail m) (List·Memᴰ·head q) e = absurd (omega (arith, a x m, ap k q))
+  ascending-one (before a s) (List·Memᴰ·tail m) (List·Memᴰ·tail n) e = ascending-one s m n e
 
-pub pairs-in : {x y : ℕ} {xs : List ℕ} (ys : List ℕ) → List·Memᴰ x xs → List·Memᴰ y ys → List·Memᴰ (x, y) (pairs xs ys)
-unfolding pairs row
-pairs-in {x} {y} ys m n = out m
-  where
-    left : (z : ℕ) {zs : List ℕ} (r : List (ℕ × ℕ)) → x ≡ z → List·Memᴰ y zs → List·Memᴰ (x, y) (row z zs r)
-    left z r e (List·Memᴰ·head q) = List·Memᴰ·head (λ i. (e i, q i))
-    left z r e (List·Memᴰ·tail m) = List·Memᴰ·tail (left z r e m)
+-- A list of keys put in order.
+pub ascend-in : {x : ℕ} {xs : List ℕ} → List·Memᴰ x xs → List·Memᴰ x (ascend xs)
+unfolding ascend
+ascend-in (List·Memᴰ·head {x = y} {xs = ys} e) = let s = put-in (put (λ x. x) y (ascend ys)) in Memᴰ·cast (e ∙ s .is) (s .mem)
+ascend-in (List·Memᴰ·tail {x = y} {xs = ys} m) = put-keeps (put (λ x. x) y (ascend ys)) (ascend-in m)
 
-    right : (z : ℕ) (zs : List ℕ) {r : List (ℕ × ℕ)} → List·Memᴰ (x, y) r → List·Memᴰ (x, y) (row z zs r)
-    right z [] m = m
-    right z (w ∷ ws) m = List·Memᴰ·tail (right z ws m)
-
-    out : {xs : List ℕ} → List·Memᴰ x xs → List·Memᴰ (x, y) (pairs xs ys)
-    out (List·Memᴰ·head {x = z} {xs = zs} e) = left z (pairs zs ys) e n
-    out (List·Memᴰ·tail {x = z} m) = right z ys (out m)
-
--- Both members of a pair are members.
-pub pairs-out : {p : ℕ × ℕ} (xs ys : List ℕ) → List·Memᴰ p (pairs xs ys) → List·Memᴰ (p .0) xs × List·Memᴰ (p .1) ys
-unfolding pairs row
-pairs-out [] ys m = absurd (List·Memᴰ·not-nil m)
-pairs-out {p} (x ∷ xs) ys m = go (cases ys m) (λ q. pairs-out xs ys q)
-  where
-    cases : (zs : List ℕ) → List·Memᴰ p (row x zs (pairs xs ys)) → ((p .0 ≡ x) × List·Memᴰ (p .1) zs) ⊎ List·Memᴰ p (pairs xs ys)
-    cases [] m = inr m
-    cases (z ∷ zs) m = first (List·Memᴰ·cases-cons m) (λ n. cases zs n)
-      where
-        first : (p ≡ (x, z)) ⊎ List·Memᴰ p (row x zs (pairs xs ys)) → (List·Memᴰ p (row x zs (pairs xs ys)) → ((p .0 ≡ x) × List·Memᴰ (p .1) zs) ⊎ List·Memᴰ p (pairs xs ys))
-            → ((p .0 ≡ x) × List·Memᴰ (p .1) (z ∷ zs)) ⊎ List·Memᴰ p (pairs xs ys)
-        first (inl e) f = inl ((λ i. e i .0), List·Memᴰ·head (λ i. e i .1))
-        first (inr n) f = elim (f n) [ inl q ↦ inl (q .0, List·Memᴰ·tail (q .1)) | inr q ↦ inr q ]
-
-    go : ((p .0 ≡ x) × List·Memᴰ (p .1) ys) ⊎ List·Memᴰ p (pairs xs ys) → (List·Memᴰ p (pairs xs ys) → List·Memᴰ (p .0) xs × List·Memᴰ (p .1) ys)
-        → List·Memᴰ (p .0) (x ∷ xs) × List·Memᴰ (p .1) ys
-    go (inl q) f = (List·Memᴰ·head (q .0), q .1)
-    go (inr q) f = (List·Memᴰ·tail (f q .0), f q .1)
+pub ascend-ascending : (xs : List ℕ) → Ascending (Lower (λ x. x)) (ascend xs)
+unfolding ascend
+ascend-ascending [] = done
+ascend-ascending (x ∷ xs) = insert-ascending (λ x. x) x (ascend-ascending xs)

@@ -7,11 +7,11 @@ use Rattle.rules.specs.Rows.{levelOf}
 use Rattle.rules.specs.Numbered.{insert, add, adding, inserted}
 use Rattle.rules.specs.Facts.{Specimen, Holds}
 use Rattle.rules.specs.Specimens.{specimens}
-use Rattle.rules.proofs.Plain.Evaluate.{same, any, keep, mem, best, tab, look, when, until, self, val, row, pairs, edge, via, raise, round, levels, keysOf, byId, bit, naming, standsIn, isSubject, atAdmin, excludes, excluded, covered, eligible, issuerIn, flagged, usable, joining, joined, liveStep, coveredOnes, liveFlags, isLiveUncovered, isLive, capIn, capOf, capRaise, capStep, capTable, evaluate, through, collect, positiveOf, effectiveOf, otherOf, membersOf, heldOf, excludedOf, liveOf, conveyedOf, standingOf, closureOf, closureRevsOf}
-use Rattle.rules.proofs.Plain.Tests.{sameOption, sameStanding, sameList, samePair, sameRev, test, every, passes, passing, passed}
+use Rattle.rules.proofs.Plain.Evaluate.{any, keep, best, total, agree, mem, ascend, tab, look, until, rounds, cell, self, val, edge, via, raise, round, levels, keysOf, same, byId, flagged, naming, standsIn, issuerIn, isSubject, atAdmin, excludes, excluded, covered, eligible, usable, joining, joined, liveStep, liveFlags, isLiveUncovered, isLive, capIn, capOf, capRaise, capStep, capTable, evaluate, through, positiveOf, effectiveOf, membersOf, heldOf, excludedOf, liveOf, conveyedOf, standingOf, closureOf, closureRevsOf}
+use Rattle.rules.proofs.Plain.Tests.{byteOf, numberOf, sameList, test, every, passes, passing, passed}
 
 computed : every passing specimens ≡ true
-unfolding specimens any keep mem best tab look when until insert self val row pairs edge via raise round levels keysOf byId bit naming standsIn isSubject atAdmin excludes excluded covered eligible issuerIn flagged usable joining joined liveStep coveredOnes liveFlags isLiveUncovered isLive capIn capOf capRaise capStep capTable evaluate through collect positiveOf effectiveOf otherOf membersOf heldOf excludedOf liveOf conveyedOf standingOf closureOf closureRevsOf same Capped levelOf add adding inserted sameOption sameStanding sameList samePair sameRev test every passes passing
+unfolding specimens Capped levelOf insert add adding inserted any keep best total agree mem ascend tab look until rounds cell self val edge via raise round levels keysOf same byId flagged naming standsIn issuerIn isSubject atAdmin excludes excluded covered eligible usable joining joined liveStep liveFlags isLiveUncovered isLive capIn capOf capRaise capStep capTable evaluate through positiveOf effectiveOf membersOf heldOf excludedOf liveOf conveyedOf standingOf closureOf closureRevsOf byteOf numberOf sameList test every passes passing
 computed = refl
 
 -- The one theorem.
