@@ -1,5 +1,5 @@
--- D1 to D3: levels as answers, the simulation theorem, monotony, and what rows of bytes have to show.
+-- D1 to D3: levels as answers, monotony, the simulation theorem, and what rows of bytes have to show.
 pub mod Answers
-pub mod Simulate
 pub mod Monotone
+pub mod Simulate
 pub mod Rows

@@ -9,6 +9,13 @@ use Rattle.rules.specs.Rules.{Admin, Shape, Stands, D1, D2, D3, Answer, 
 use Rattle.rules.specs.Rows.{levelOf}
 use Rattle.rules.proofs.Derivations.Monotone.{stands-top, stands-alone, stands-named}
 
+-- A byte answers P where what it says is P, and nothing above it is.
+byte-answers : {P : ℕ → Type 0} (n : ℕ) → ((l : ℕ) → n ≡ suc l → P l) → ((l : ℕ) → P l → suc l ≤ n) → Answer P (levelOf n)
+unfolding levelOf
+byte-answers zero is most = absent (λ l h. omega (arith, most l h))
+byte-answers (suc l) is most = level (record { holds = is l refl; most = λ m h. omega (arith, most m h) })
+
+-- the rules of W with E, N and c, and a table T of rows
 module _ (W : Shape) (E : W .Del → Type 0) (N : W .Key → Type 0) (c : W .Del → ℕ) (T : W .Key → W .Key → ℕ) where
   pub record Closed : Type 0 where
     pub start : {r : W .Key} → ¬ N r → suc Admin ≤ T r r
@@ -18,27 +25,23 @@ module _ (W : Shape) (E : W .Del → Type 0) (N : W .Key → Type 0) (c : W .Del
   pub record Derived : Type 0 where
     pub sound : {r x : W .Key} {l : ℕ} → T r x ≡ suc l → Stands W E N c r x l
 
-module _ {W : Shape} {E : W .Del → Type 0} {N : W .Key → Type 0} {c : W .Del → ℕ} {T : W .Key → W .Key → ℕ} where
-  pub closed-above : {r x : W .Key} {l : ℕ} → Closed W E N c T → Stands W E N c r x l → suc l ≤ T r x
-  closed-above t (D1 n) = t .start n
-  closed-above t (D2 d e p n s) = let h = closed-above t s in rw (← p) (omega (arith, t .step {d = d} e n, rw (← p) at h))
-  closed-above {x = x} t (D3 ne s u) = let h = closed-above t s in let k = closed-above t u in omega (arith, t .through {x = x} ne)
-
-  pub table-answers : Closed W E N c T → Derived W E N c T → (r x : W .Key) → Answer (Stands W E N c r x) (levelOf (T r x))
-  unfolding levelOf
-  table-answers t s r x = go (T r x) refl
-    where
-      go : (n : ℕ) → T r x ≡ n → Answer (Stands W E N c r x) (levelOf n)
-      go zero e = absent (λ l h. omega (arith, closed-above t h))
-      go (suc l) e = level (record { holds = s .sound e; most = λ m h. omega (arith, closed-above t h) })
-
--- Keys that are not held.
 module _ {W : Shape} {E : W .Del → Type 0} {N : W .Key → Type 0} {c : W .Del → ℕ} where
+  module _ {T : W .Key → W .Key → ℕ} (t : Closed W E N c T) where
+    -- by induction on the derivation, each byte is past its level
+    pub closed-above : {r x : W .Key} {l : ℕ} → Stands W E N c r x l → suc l ≤ T r x
+    closed-above (D1 n) = t .start n
+    closed-above (D2 d e p n s) = rw (← p) (omega (arith, t .step {d = d} e n, rw (← p) at (closed-above s)))
+    closed-above {x = x} (D3 ne s u) = omega (arith, closed-above s, closed-above u, t .through {x = x} ne)
+
+    pub table-answers : Derived W E N c T → (r x : W .Key) → Answer (Stands W E N c r x) (levelOf (T r x))
+    table-answers s r x = byte-answers (T r x) (λ l. s .sound) (λ l. closed-above)
+
+  -- Keys that are not held: a key over itself, and another key where nothing is delegated over r or to x.
   pub self-answer : {r : W .Key} → ¬ N r → Answer (Stands W E N c r r) (some Admin)
-  self-answer n = level (record { holds = D1 n; most = λ m h. stands-top h })
+  self-answer n = level (record { holds = D1 n; most = λ m. stands-top })
 
   pub no-subject : {r x : W .Key} → ¬ (x ≡ r) → ((d : W .Del) → E d → ¬ (W .subject d ≡ r)) → Answer (Stands W E N c r x) none
   no-subject n f = absent (λ l h. n (stands-alone f h))
 
   pub no-audience : {r x : W .Key} → ¬ (x ≡ r) → ((d : W .Del) → E d → ¬ (W .audience d ≡ x)) → Answer (Stands W E N c r x) none
-  no-audience n f = absent (λ l h. elim (stands-named h) [ inl p ↦ n p | inr q ↦ f (q .0) (q .1) (q .2) ])
+  no-audience n f = absent (λ l h. elim (stands-named h) [ inl p ↦ n p | inr k ↦ f (k .0) (k .1) (k .2) ])

@@ -1,68 +1,56 @@
--- The simulation theorem: one induction on derivations, from which monotony (Monotone), demand 3 and the way from places to bytes
--- (Stores/Match) all follow.
--- Statement (`simulate`): what is derived from E, N and c of the shape W is derived, at no lower a level, from E′, N′ and c′ of W′, for
--- corresponding keys. `K x x′`: the keys x and x′ correspond. `R r`: the root r is in scope; only roots in scope need to correspond.
+-- The simulation theorem, `simulate`: what is derived from E, N and c of the shape W is derived, at no lower a level, from E′, N′ and c′
+-- of W′, for corresponding keys. Demand 3 (Stores/OneClosure) and the way from places to bytes (Stores/Places) both follow from it.
+-- `K x x′`: the keys x and x′ correspond. `R r`: the root r is in scope; only roots in scope need to correspond.
 -- `Sim` lists what that takes: each rule's premises have their counterpart.
-use Prim.Native.Nat.{ℕ, min, _≤_}
-use mathlib.Core.Path.{_≡_, subst}
-use native.Mathlib.Omega.{arith}
-use Rattle.rules.specs.Rules.{Shape, Stands, D1, D2, D3, level, Admin}
-use Rattle.rules.proofs.Derivations.Answers.{AtLeast}
+use Prim.Native.Nat.{ℕ, _≤_}
+use mathlib.Core.Path.{_≡_}
+use Rattle.rules.specs.Rules.{Shape, Stands, D1, D2, D3}
+use Rattle.rules.proofs.Derivations.Answers.{AtLeast, Under, just}
+use Rattle.rules.proofs.Derivations.Monotone.{over-edge, over-through}
 
--- What is derived from the parameters E N c of W is derived, at no lower a level, from E′ N′ c′ of W′.
--- K x x′: the keys x and x′ correspond.  R r: the root r is in scope.
 module _ (W W′ : Shape) (K : W .Key → W′ .Key → Type 0) where
+  -- a key that corresponds to x and stands at l or more
   pub record Image (P : W′ .Key → ℕ → Type 0) (x : W .Key) (l : ℕ) : Type 0 where
     pub key : W′ .Key
     pub same : K x key
-    pub level : ℕ
-    pub more : l ≤ level
-    pub stands : P key level
+    pub stands : AtLeast (P key) l
 
-  pub settle : {P : W′ .Key → ℕ → Type 0} {x : W .Key} {x′ : W′ .Key} {l : ℕ}
-      → ((y z : W′ .Key) → K x y → K x z → y ≡ z) → K x x′ → Image P x l → AtLeast (P x′) l
-  settle {P} {x′ = x′} f k i = record { level = i .level; more = i .more; holds = subst (λ y. P y (i .level)) (f (i .key) x′ (i .same) k) (i .stands) }
+  module _ (E : W .Del → Type 0) (N : W .Key → Type 0) (c : W .Del → ℕ) (E′ : W′ .Del → Type 0) (N′ : W′ .Key → Type 0) (c′ : W′ .Del → ℕ) where
+    -- what D2 needs in W′ for d, where r′ and u′ correspond to its subject and issuer
+    pub record Edge (r′ u′ : W′ .Key) (d : W .Del) : Type 0 where
+      pub del : W′ .Del
+      pub usable : E′ del
+      pub subject : W′ .subject del ≡ r′
+      pub issuer : W′ .issuer del ≡ u′
+      pub audience : K (W .audience d) (W′ .audience del)
+      pub level : c d ≤ c′ del
 
-  pub record Edge (E′ : W′ .Del → Type 0) (N′ : W′ .Key → Type 0) (c′ : W′ .Del → ℕ) (r′ u′ : W′ .Key) (a : W .Key) (l : ℕ) : Type 0 where
-    pub del : W′ .Del
-    pub usable : E′ del
-    pub subject : W′ .subject del ≡ r′
-    pub issuer : W′ .issuer del ≡ u′
-    pub same : K a (W′ .audience del)
-    pub out : ¬ N′ (W′ .audience del)
-    pub level : l ≤ c′ del
-
-  pub record Sim (E : W .Del → Type 0) (N : W .Key → Type 0) (c : W .Del → ℕ)
-      (E′ : W′ .Del → Type 0) (N′ : W′ .Key → Type 0) (c′ : W′ .Del → ℕ) (R : W .Key → Type 0) : Type 0 where
-    pub one : {x y : W .Key} {z : W′ .Key} → K x z → K y z → x ≡ y
-    pub grow : {r u : W .Key} {l : ℕ} → R r → Stands W E N c r u l → R u
-    pub out : {r : W .Key} {r′ : W′ .Key} → R r → K r r′ → ¬ N r → ¬ N′ r′
-    pub edge : {d : W .Del} {r′ u′ : W′ .Key} → E d → R (W .subject d) → R (W .audience d) → K (W .subject d) r′ → K (W .issuer d) u′
-        → ¬ N (W .audience d) → Edge E′ N′ c′ r′ u′ (W .audience d) (c d)
+    pub record Sim (R : W .Key → Type 0) : Type 0 where
+      pub one : {x y : W .Key} {z : W′ .Key} → K x z → K y z → x ≡ y
+      pub grow : {r u : W .Key} {l : ℕ} → R r → Stands W E N c r u l → R u
+      pub out : {r : W .Key} {r′ : W′ .Key} → R r → K r r′ → ¬ N r → ¬ N′ r′
+      pub edge : {d : W .Del} {r′ u′ : W′ .Key} → E d → R (W .subject d) → R (W .audience d) → K (W .subject d) r′ → K (W .issuer d) u′
+          → ¬ N (W .audience d) → Edge r′ u′ d
 
   module _ {E : W .Del → Type 0} {N : W .Key → Type 0} {c : W .Del → ℕ}
       {E′ : W′ .Del → Type 0} {N′ : W′ .Key → Type 0} {c′ : W′ .Del → ℕ} {R : W .Key → Type 0} (S : Sim E N c E′ N′ c′ R) where
     pub simulate : {r x : W .Key} {l : ℕ} (r′ : W′ .Key) → R r → K r r′ → Stands W E N c r x l → Image (Stands W′ E′ N′ c′ r′) x l
-    simulate r′ ρ k (D1 n) = record { key = r′; same = k; level = Admin; more = omega arith; stands = D1 (S .out ρ k n) }
+    simulate r′ ρ k (D1 n) = record { key = r′; same = k; stands = just (D1 (S .out ρ k n)) }
     simulate r′ ρ k (D2 d e p n s) =
         let i = simulate r′ ρ k s in
-        let g = S .edge {d = d} {r′ = r′} {u′ = i .key} e (rw p ρ) (S .grow ρ (D2 d e p n s)) (rw p k) (i .same) n in
-        let a = i .more in let b = g .level in
+        let α = S .grow ρ (D2 d e p n s) in
+        let g = S .edge {d = d} {r′ = r′} e (rw p ρ) α (rw p k) (i .same) n in
         record {
-          key = W′ .audience (g .del);
-          same = g .same;
-          level = min (i .level) (c′ (g .del));
-          more = omega arith;
-          stands = D2 {l = i .level} (g .del) (g .usable) (g .subject) (g .out) (rw (g .issuer) (i .stands));
+          key = _;
+          same = g .audience;
+          stands = over-edge (g .del) (g .usable) (g .subject) (S .out α (g .audience) n) (g .level) (rw (g .issuer) (i .stands));
         }
     simulate r′ ρ k (D3 ne s t) =
         let i = simulate r′ ρ k s in
         let j = simulate (i .key) (S .grow ρ s) (i .same) t in
-        let a = i .more in let b = j .more in
-        record {
-          key = j .key;
-          same = j .same;
-          level = min (i .level) (j .level);
-          more = omega arith;
-          stands = D3 {u = i .key} (λ q. ne (S .one (i .same) (rw q k))) (i .stands) (j .stands);
-        }
+        record { key = j .key; same = j .same; stands = over-through (λ q. ne (S .one (i .same) (rw q k))) (i .stands) (j .stands) }
+
+    -- the same at a key that is known to correspond, where at most one does
+    pub simulate-at : {r x : W .Key} {r′ x′ : W′ .Key} → ((y z : W′ .Key) → K x y → K x z → y ≡ z) → R r → K r r′ → K x x′
+        → Under (Stands W E N c r x) (Stands W′ E′ N′ c′ r′ x′)
+    simulate-at {r′ = r′} other ρ k j l s = let i = simulate r′ ρ k s in rw (other _ _ (i .same) j) at (i .stands)

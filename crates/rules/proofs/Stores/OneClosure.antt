@@ -1,199 +1,142 @@
 -- Demand 3 on the definitions (`demand-3`): where the closures of s in two finite stores list the same certificates, every answer that
--- specs/OneClosure names coincides.
--- Idea: the two graphs match on the closure (`match`), with the nodes of s as scope: D3 lets nodes reach nodes only.
--- And a store that holds just the closure of s has that closure (`closure-closed`).
+-- specs/OneClosure names coincides. And a store that holds just the closure of s has that closure (`closure-closed`).
+-- Idea: D3 lets nodes reach nodes only (`node-grow`). So the two graphs match (Stores/Match) on the closure, with the nodes of s as scope.
 use Prim.Native.Nat.{ℕ, min}
 use mathlib.Core.HLevel.{×-discrete}
-use mathlib.Core.List.{List, List-discrete}
-use mathlib.Core.Logic.{_↔_}
+use mathlib.Core.List.{List-discrete}
+use mathlib.Core.Logic.{_↔_, Iff·rfl, eq-comm, Dec·of-iff}
 use mathlib.Core.Option.{Option, discrete}
-use mathlib.Core.Path.{_≡_, refl, sym, _∙_, subst, ap}
+use mathlib.Core.Path.{_≡_, refl, sym, _∙_, ap}
 use native.Mathlib.Decide.{ℕ-discrete}
 use native.Mathlib.Omega.{arith}
-use Rattle.rules.specs.Rules.{Finite, Admin, Shape, Graph, D1, D3, Nobody, Positive, Answer, Live, Caps, Effective, Conveys, StandingIs, Standing, PositiveIs, EffectiveIs, ConveyedIs, Member, MembersAre, level, DelegationTo, Node, Closure, ClosureRev, Revocations, Store, graph, RevocationOf}
+use Rattle.rules.specs.Rules.{Finite, Admin, Shape, Graph, D1, D3, Nobody, Positive, Answer, Caps, Effective, Member, level, DelegationTo, Node, Closure, Revocations, Store, graph, RevocationOf, RevokedBy}
 use Rattle.rules.specs.OneClosure.{ListedIn, RestsOnClosure, JustClosure}
 use Rattle.rules.proofs.Derivations.Answers.{answer-unique, greatest-of}
-use Rattle.rules.proofs.Derivations.Simulate.{Sim, simulate}
+use Rattle.rules.proofs.Derivations.Simulate.{Sim, simulate-at}
 use Rattle.rules.proofs.Evaluation.Listing.{lists-same}
 use Rattle.rules.proofs.Evaluation.Settled.{conveyed-settled, standing-settled}
 use Rattle.rules.proofs.Stores.Finite.{as-if-decided}
 use Rattle.rules.proofs.Stores.Match.{Match, positive-same, live-same, standing-same, effective-same, conveys-same}
 
--- Nodes reach nodes only.
-module _ {W : Shape} {G : Graph W} {s : W .Key} (same : (x y : W .Key) → Dec (x ≡ y)) where
-  node-grow : {r u : W .Key} {l : ℕ} → Node G s r → Positive G r u l → Node G s u
-  node-grow {r} {u} {l} n p = go (same r s)
-    where
-      go : Dec (r ≡ s) → Node G s u
-      go (yes e) = record { level = l; stands = rw e at p }
-      go (no ne) = record { level = min (n .level) l; stands = D3 ne (n .stands) p }
+-- Nodes: s is one, and nodes reach nodes only.
+module _ {W : Shape} {G : Graph W} {s : W .Key} where
+  node-self : Node G s s
+  node-self = record { level = Admin; stands = D1 (λ z. z) }
 
--- So where H holds what is in G's closure of s, G's nodes of s are H's, and that closure is in H's.
-module _ {W : Shape} {G H : Graph W} {s : W .Key} (kept : (d : W .Del) → Closure G s d → H .Held d) (same : (x y : W .Key) → Dec (x ≡ y)) where
-  node-kept : {n : W .Key} → Node G s n → Node H s n
-  node-kept n =
-      let i = simulate W W (λ x y. x ≡ y) sim s (record { level = Admin; stands = D1 (λ z. z) }) refl (n .stands) in
-      record { level = i .level; stands = subst (λ y. Positive H s y (i .level)) (sym (i .same)) (i .stands) }
-    where
-      sim : Sim W W (λ x y. x ≡ y) (G .Held) Nobody (W .power) (H .Held) Nobody (W .power) (Node G s)
-      sim = record {
-        one = λ p q. p ∙ sym q;
-        grow = node-grow same;
-        out = λ ρ k n z. z;
-        edge = λ {d} h ρ α p q n. record {
-          del = d;
-          usable = kept d (record { held = h; node = ρ });
-          subject = p;
-          issuer = q;
-          same = refl;
-          out = λ z. z;
-          level = omega arith;
-        };
-      }
+  node-grow : {r u : W .Key} {l : ℕ} → ((x y : W .Key) → Dec (x ≡ y)) → Node G s r → Positive G r u l → Node G s u
+  node-grow {r} {l = l} same n p = elim (same r s) [
+    | yes e ↦ record { level = l; stands = rw e at p }
+    | no ne ↦ record { level = min (n .level) l; stands = D3 ne (n .stands) p }
+  ]
 
-  closure-kept : {d : W .Del} → Closure G s d → Closure H s d
-  closure-kept c = record { held = kept _ c; node = node-kept (c .node) }
+-- So where H holds what is in G's closure of s, G's nodes of s are H's.
+node-kept : {W : Shape} {G H : Graph W} {s n : W .Key} → ((x y : W .Key) → Dec (x ≡ y)) → ((d : W .Del) → Closure G s d → H .Held d)
+    → Node G s n → Node H s n
+node-kept {W} {G} {H} {s} same kept n = let i = simulate-at W W _≡_ sim (λ y z p q. sym p ∙ q) node-self refl refl _ (n .stands) in record { level = i .level; stands = i .holds }
+  where
+    sim : Sim W W _≡_ (G .Held) Nobody (W .power) (H .Held) Nobody (W .power) (Node G s)
+    sim = record {
+      one = λ p q. p ∙ sym q;
+      grow = node-grow same;
+      out = λ ρ k n z. z;
+      edge = λ {d} h ρ α p q n. record { del = d; usable = kept d (record { held = h; node = ρ }); subject = p; issuer = q; audience = refl; level = omega arith };
+    }
 
 pub closure-closed : {W : Shape} {F : Revocations W} {A B : Store W F} {s : W .Key} → ((x y : W .Key) → Dec (x ≡ y)) → JustClosure A B s
     → ListedIn A B s × ListedIn B A s
-closure-closed {W} {F} {A} {B} {s} same j = (record { dels = stays; revs = revs }, record { dels = λ c. j .dels .1 (c .held); revs = λ c. j .revs .1 (c .of .held) })
+closure-closed {W} {A = A} {B} {s} same j = (
+  record {
+    dels = stays;
+    revs = λ c. record { del = c .del; closure = stays (c .closure); of = record { held = j .revs .0 c; names = c .of .names } };
+  },
+  record { dels = λ c. j .dels .1 (c .held); revs = λ c. j .revs .1 (c .of .held) },
+)
   where
     stays : {d : W .Del} → Closure (graph A) s d → Closure (graph B) s d
-    stays = closure-kept (λ d c. j .dels .0 c) same
+    stays c = record { held = j .dels .0 c; node = node-kept same (λ d. j .dels .0) (c .node) }
 
-    revs : {v : F .Rev} → ClosureRev A s v → ClosureRev B s v
-    revs c = record { del = c .del; closure = stays (c .closure); of = record { held = j .revs .0 c; names = c .of .names } }
+-- What A lists, B lists: one way.
+module _ {W : Shape} {F : Revocations W} {A B : Store W F} {s : W .Key} (h : ListedIn A B s) where
+  revocation-there : {d : W .Del} {v : F .Rev} → Closure (graph A) s d → RevocationOf A d v → RevocationOf B d v
+  revocation-there {d} c r = record { held = h .revs (record { del = d; closure = c; of = r }) .of .held; names = r .names }
 
--- What is in G's closure of s is in H's, with G's revokers.
-pub record Within {W : Shape} (G H : Graph W) (s : W .Key) : Type 0 where
-  pub closure : {d : W .Del} → Closure G s d → Closure H s d
-  pub revokes : {d : W .Del} {k : W .Key} → Closure G s d → G .Revokes k d → H .Revokes k d
+  revokes-there : {d : W .Del} {k : W .Key} → Closure (graph A) s d → RevokedBy A k d → RevokedBy B k d
+  revokes-there c r = record { revocation = r .revocation; of = revocation-there c (r .of); issuer = r .issuer }
 
-module _ {W : Shape} {G H : Graph W} {s : W .Key} (w : Within G H s) (same : (x y : W .Key) → Dec (x ≡ y)) where
   -- What was delegated to x over s is in the closure of s.
-  pub to-within : {x : W .Key} {d : W .Del} → DelegationTo G s x d → DelegationTo H s x d
-  to-within t = record {
-    held = w .closure (record { held = t .held; node = subst (Node G s) (sym (t .subject)) (record { level = Admin; stands = D1 (λ z. z) }) }) .held;
+  delegation-there : {x : W .Key} {d : W .Del} → DelegationTo (graph A) s x d → DelegationTo (graph B) s x d
+  delegation-there t = record {
+    held = h .dels (record { held = t .held; node = rw (t .subject) node-self }) .held;
     subject = t .subject;
     audience = t .audience;
   }
 
   -- K is equality and D equality in the closure, in whichever order they are written.
-  match : {K : W .Key → W .Key → Type 0} {D : W .Del → W .Del → Type 0}
-      → ((x y : W .Key) → K x y → x ≡ y) → ((x y : W .Key) → x ≡ y → K x y)
-      → ((d e : W .Del) → D d e → d ≡ e) → ((d e : W .Del) → D d e → Closure G s d) → ((d : W .Del) → Closure G s d → D d d)
-      → Match G H K D (Node G s) (Node H s)
-  match {K} {D} f g u v i = record {
-    one = λ p q. f _ _ p ∙ sym (f _ _ q);
-    alone = λ p q. u _ _ p ∙ sym (u _ _ q);
-    scope = λ ρ k. subst (Node H s) (f _ _ k) (node-kept (λ d c. w .closure c .held) same ρ);
+  match : {K : W .Key → W .Key → Type 0} {D : W .Del → W .Del → Type 0} → ((x y : W .Key) → Dec (x ≡ y))
+      → ((x y : W .Key) → K x y ↔ (x ≡ y)) → ((d e : W .Del) → D d e ↔ ((d ≡ e) × Closure (graph A) s d))
+      → Match (graph A) (graph B) K D (Node (graph A) s) (Node (graph B) s)
+  match same key del = record {
+    one = λ p q. key _ _ .0 p ∙ sym (key _ _ .0 q);
+    alone = λ p q. del _ _ .0 p .0 ∙ sym (del _ _ .0 q .0);
+    scope = λ ρ k. rw (key _ _ .0 k) at (node-kept {H = graph B} same (λ d c. h .dels c .held) ρ);
     grow = node-grow same;
-    find = λ {d} h ρ. (d, i d (record { held = h; node = ρ }));
-    inside = λ p. v _ _ p .node;
-    held = λ p. subst (H .Held) (u _ _ p) (w .closure (v _ _ p) .held);
-    issuer = λ p. g _ _ (ap (W .issuer) (u _ _ p));
-    audience = λ p. g _ _ (ap (W .audience) (u _ _ p));
-    subject = λ p. g _ _ (ap (W .subject) (u _ _ p));
-    power = λ p. ap (W .power) (u _ _ p);
-    revokes = λ {k} {d} {e} p r. (k, g _ _ refl, subst (λ x. H .Revokes k x) (u _ _ p) (w .revokes (v _ _ p) r));
+    find = λ {d} g ρ. (d, del d d .1 (refl, record { held = g; node = ρ }));
+    inside = λ p. del _ _ .0 p .1 .node;
+    held = λ p. let q = del _ _ .0 p in rw (q .0) at (h .dels (q .1) .held);
+    issuer = λ p. key _ _ .1 (ap (W .issuer) (del _ _ .0 p .0));
+    audience = λ p. key _ _ .1 (ap (W .audience) (del _ _ .0 p .0));
+    subject = λ p. key _ _ .1 (ap (W .subject) (del _ _ .0 p .0));
+    power = λ p. ap (W .power) (del _ _ .0 p .0);
+    revokes = λ {k} p r. let q = del _ _ .0 p in (k, key k k .1 refl, rw (q .0) at (revokes-there (q .1) r));
   }
 
--- Two stores with one closure of s.
-module _ {W : Shape} {G H : Graph W} {s : W .Key} (fin : Finite G) (there : Within G H s) (back : Within H G s) where
-  In : W .Del → W .Del → Type 0
-  In d e = (d ≡ e) × Closure G s d
+-- Both ways.
+module _ {W : Shape} {F : Revocations W} {A B : Store W F} {s : W .Key} (fin : Finite (graph A)) (h : ListedIn A B s) (g : ListedIn B A s) where
+  abbrev In : W .Del → W .Del → Type 0
+  In d e = (d ≡ e) × Closure (graph A) s d
 
-  to : Match G H (λ x y. x ≡ y) In (Node G s) (Node H s)
-  unfolding In
-  to = match there (fin .keys) (λ x y p. p) (λ x y p. p) (λ d e p. p .0) (λ d e p. p .1) (λ d c. (refl, c))
+  to : Match (graph A) (graph B) (λ x y. x ≡ y) In (Node (graph A) s) (Node (graph B) s)
+  to = match h (fin .keys) (λ x y. Iff·rfl) (λ d e. Iff·rfl)
 
-  from : Match H G (λ x y. y ≡ x) (λ d e. In e d) (Node H s) (Node G s)
-  unfolding In
-  from = match back (fin .keys) (λ x y p. sym p) (λ x y p. sym p) (λ d e p. sym (p .0))
-      (λ d e p. subst (Closure H s) (p .0) (there .closure (p .1))) (λ d c. (refl, back .closure c))
+  from : Match (graph B) (graph A) (λ x y. y ≡ x) (λ d e. In e d) (Node (graph B) s) (Node (graph A) s)
+  from = match g (fin .keys) (λ x y. eq-comm)
+      (λ d e. (λ p. (sym (p .0), rw (p .0) at (h .dels (p .1))), λ p. (sym (p .0), rw (p .0) at (g .dels (p .1)))))
 
-  self : Node G s s
-  self = record { level = Admin; stands = D1 (λ z. z) }
+  -- Caps are functions, and these want the closure decided; in a finite store what is decided may be proved as if it were.
+  as-decided : {X : Type 0} → Dec X → (((d : W .Del) → Dec (Closure (graph A) s d)) → X) → X
+  as-decided = as-if-decided fin (Closure (graph A) s) (λ d c. c .held)
 
-  -- These rest on nothing else.
-  pub positive-there : {x : W .Key} {o : Option ℕ} → PositiveIs G s x o → PositiveIs H s x o
-  positive-there = positive-same to from self refl refl
-
-  pub live-rests : {d : W .Del} → Closure G s d → Live G d ↔ Live H d
-  unfolding In
-  live-rests c = live-same to from (refl, c)
-
-  pub standing-there : {d : W .Del} {o : Standing} → Closure G s d → StandingIs G d o → StandingIs H d o
-  unfolding In
-  standing-there c = standing-same to from (refl, c)
-
-  -- Caps are functions, and these want the closure decided.
-  module _ (decide : (d : W .Del) → Dec (Closure G s d)) {κ κ′ : W .Del → ℕ} (k : Caps G κ) (k′ : Caps H κ′) where
+  module _ (decide : (d : W .Del) → Dec (Closure (graph A) s d)) where
     seek : (d : W .Del) → Dec ((e : W .Del) × In d e)
-    unfolding In
-    seek d = elim (decide d) [ yes c ↦ yes (d, (refl, c)) | no n ↦ no (λ f. n (f .1 .1)) ]
+    seek d = Dec·of-iff (λ c. (d, (refl, c)), λ f. f .1 .1) (decide d)
 
     seek′ : (e : W .Del) → Dec ((d : W .Del) × In d e)
-    unfolding In
-    seek′ e = elim (decide e) [ yes c ↦ yes (e, (refl, c)) | no n ↦ no (λ f. n (subst (Closure G s) (f .1 .0) (f .1 .1))) ]
+    seek′ e = Dec·of-iff (λ c. (e, (refl, c)), λ f. rw (f .1 .0) at (f .1 .1)) (decide e)
 
-    pub effective-there : {x : W .Key} {o : Option ℕ} → Answer (Effective G κ s x) o → Answer (Effective H κ′ s x) o
-    effective-there = effective-same to from seek seek′ k k′ self refl refl
+    module _ {κ κ′ : W .Del → ℕ} (k : Caps (graph A) κ) (k′ : Caps (graph B) κ′) where
+      effective-both : {x : W .Key} {o : Option ℕ} → Answer (Effective (graph A) κ s x) o ↔ Answer (Effective (graph B) κ′ s x) o
+      effective-both = (effective-same to from seek seek′ k k′ node-self refl refl, effective-same from to seek′ seek k′ k node-self refl refl)
 
-    pub conveys-there : {d : W .Del} {o : Option ℕ} → Closure G s d → Conveys G κ d o → Conveys H κ′ d o
-    unfolding In
-    conveys-there c = conveys-same to from seek seek′ k k′ (refl, c)
+      member-both : (m : W .Key × ℕ) → Member (graph A) κ s m ↔ Member (graph B) κ′ s m
+      member-both m = (
+        (λ h. record { other = h .other; effective = greatest-of (effective-both .0 (level (h .effective))) }),
+        (λ h. record { other = h .other; effective = greatest-of (effective-both .1 (level (h .effective))) }),
+      )
 
-    pub effective-back : {x : W .Key} {o : Option ℕ} → Answer (Effective H κ′ s x) o → Answer (Effective G κ s x) o
-    effective-back = effective-same from to seek′ seek k′ k (record { level = Admin; stands = D1 (λ z. z) }) refl refl
-
-    pub member-there : (m : W .Key × ℕ) → Member G κ s m → Member H κ′ s m
-    member-there m h = record { other = h .other; effective = greatest-of (effective-there (level (h .effective))) }
-
-    pub member-back : (m : W .Key × ℕ) → Member H κ′ s m → Member G κ s m
-    member-back m h = record { other = h .other; effective = greatest-of (effective-back (level (h .effective))) }
-
-  -- The answers coincide.
-  pub positive-rests : {x : W .Key} {o p : Option ℕ} → PositiveIs G s x o → PositiveIs H s x p → o ≡ p
-  positive-rests a b = answer-unique (positive-there a) b
-
-  pub standing-rests : {d : W .Del} {o p : Standing} → Closure G s d → StandingIs G d o → StandingIs H d p → o ≡ p
-  standing-rests c a b = standing-settled (standing-there c a) b
-
-  pub effective-rests : {x : W .Key} {o p : Option ℕ} → EffectiveIs G s x o → EffectiveIs H s x p → o ≡ p
-  effective-rests {o = o} {p} a b = as-if-decided fin (Closure G s) (λ d c. c .held) (discrete ℕ-discrete o p) (λ t.
-      answer-unique (effective-there t (a .caps) (b .caps) (a .answer)) (b .answer))
-
-  pub conveyed-rests : {d : W .Del} {o p : Option ℕ} → Closure G s d → ConveyedIs G d o → ConveyedIs H d p → o ≡ p
-  conveyed-rests {d = d} {o = o} {p} c a b = as-if-decided fin (Closure G s) (λ d c. c .held) (discrete ℕ-discrete o p) (λ t.
-      conveyed-settled (record { κ = b .κ; caps = b .caps; conveys = conveys-there t (a .caps) (b .caps) c (a .conveys) }) b)
-
-  pub members-rest : {Less : W .Key → W .Key → Type 0} {ms ns : List (W .Key × ℕ)} → ((x y : W .Key) → Less x y → ¬ Less y x)
-      → MembersAre G Less s ms → MembersAre H Less s ns → ms ≡ ns
-  members-rest {ms = ms} {ns} o a b = as-if-decided fin (Closure G s) (λ d c. c .held) (List-discrete (×-discrete (fin .keys) ℕ-discrete) ms ns) (λ t.
-      lists-same (λ m n. o (m .0) (n .0)) (member-there t (a .caps) (b .caps)) (member-back t (a .caps) (b .caps)) (a .lists) (b .lists))
-
-module _ {W : Shape} {F : Revocations W} {A B : Store W F} {s : W .Key} (h : ListedIn A B s) where
-  pub revocation-there : {d : W .Del} {v : F .Rev} → Closure (graph A) s d → RevocationOf A d v → RevocationOf B d v
-  revocation-there {d} c r = record { held = h .revs (record { del = d; closure = c; of = r }) .of .held; names = r .names }
-
-  pub listed-within : Within (graph A) (graph B) s
-  listed-within = record {
-    closure = h .dels;
-    revokes = λ c r. record { revocation = r .revocation; of = revocation-there c (r .of); issuer = r .issuer };
+  rests : RestsOnClosure A B s
+  rests = record {
+    positive = λ a. answer-unique (positive-same to from node-self refl refl a);
+    effective = λ {o = o} {p} a b. as-decided (discrete ℕ-discrete o p) (λ t. answer-unique (effective-both t (a .caps) (b .caps) .0 (a .answer)) (b .answer));
+    members = λ {ms = ms} {ns} o a b. as-decided (List-discrete (×-discrete (fin .keys) ℕ-discrete) ms ns) (λ t.
+        let e = member-both t (a .caps) (b .caps) in lists-same (λ m n. o (m .0) (n .0)) (λ m. e m .0) (λ m. e m .1) (a .lists) (b .lists));
+    live = λ c. live-same to from (refl, c);
+    conveyed = λ {o = o} {p} c a b. as-decided (discrete ℕ-discrete o p) (λ t.
+        let q = conveys-same to from (seek t) (seek′ t) (a .caps) (b .caps) (refl, c) (a .conveys) in
+        conveyed-settled (record { κ = b .κ; caps = b .caps; conveys = q }) b);
+    standing = λ c a. standing-settled (standing-same to from (refl, c) a);
+    delegations = (delegation-there h, delegation-there g);
+    revocations = λ c. (revocation-there h c, revocation-there g (h .dels c));
   }
 
 pub demand-3 : {W : Shape} {F : Revocations W} {A B : Store W F} {s : W .Key} → Finite (graph A) → ListedIn A B s → ListedIn B A s → RestsOnClosure A B s
-demand-3 {A = A} {B} {s} fin h g =
-    let there : Within (graph A) (graph B) s = listed-within h in
-    let back : Within (graph B) (graph A) s = listed-within g in
-    record {
-      positive = positive-rests fin there back;
-      effective = effective-rests fin there back;
-      members = members-rest fin there back;
-      live = live-rests fin there back;
-      conveyed = conveyed-rests fin there back;
-      standing = standing-rests fin there back;
-      delegations = (to-within there (fin .keys), to-within back (fin .keys));
-      revocations = λ c. (revocation-there h c, revocation-there g (h .dels c));
-    }
+demand-3 = rests

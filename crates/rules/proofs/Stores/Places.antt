@@ -1,12 +1,13 @@
 -- From places to bytes: the evaluation computes on places in tables, and its answers are those of the bytes that the places stand for
--- (`positive-bytes`, `node-bytes`, `caps-bytes`, `effective-bytes`, `conveyed-bytes`, `live-bytes`, `standing-bytes`). `Table` lists what tables have to show for it.
+-- (`positive-bytes`, `node-bytes`, `caps-bytes`, `effective-bytes`, `conveyed-bytes`, `live-bytes`, `standing-bytes`). `Table` lists what
+-- tables have to show for it.
 -- Idea: a table matches its bytes with everything in scope; caps are pulled back along it.
 use Prim.Native.Nat.{ℕ}
-use mathlib.Core.Logic.{inr, _↔_}
+use mathlib.Core.Logic.{inr, _↔_, Dec·of-iff}
 use mathlib.Core.Option.{Option}
-use mathlib.Core.Path.{_≡_, refl, sym, _∙_, subst, ap}
+use mathlib.Core.Path.{_≡_, refl, sym, _∙_, ap}
 use native.Mathlib.Omega.{arith}
-use Rattle.rules.specs.Rules.{Shape, Graph, LiveUncovered, Live, PreFixed, Caps, Capped, PositiveIs, EffectiveIs, ConveyedIs, Standing, StandingIs, Node}
+use Rattle.rules.specs.Rules.{Shape, Graph, LiveUncovered, Live, PreFixed, Caps, PositiveIs, EffectiveIs, ConveyedIs, Standing, StandingIs, Node}
 use Rattle.rules.proofs.Derivations.Answers.{answer-carry}
 use Rattle.rules.proofs.Evaluation.LiveSet.{live-held}
 use Rattle.rules.proofs.Stores.Match.{Match, positive-same, positive-under, live-same, standing-same, live-covered-match, live-uncovered-match, avoiding-match, effective-same, conveys-same}
@@ -14,81 +15,68 @@ use Rattle.rules.proofs.Stores.Match.{Match, positive-same, positive-un
 abbrev pub Every : {A : Type 0} → A → Type 0
 Every a = Unit {0}
 
--- Where all that is held is matched, caps of the one give caps of the other.
+-- Where all that is held is matched, levels of the one give levels of the other: those of the counterpart, or the power where there is none.
 module _ {W W′ : Shape} {G : Graph W} {G′ : Graph W′} {K : W .Key → W′ .Key → Type 0} {D : W .Del → W′ .Del → Type 0}
     (a : Match G G′ K D Every Every) (b : Match G′ G (λ x y. K y x) (λ d e. D e d) Every Every)
     (seek′ : (e : W′ .Del) → Dec ((d : W .Del) × D d e)) (κ : W .Del → ℕ) where
-  pulled : (e : W′ .Del) → Dec ((d : W .Del) × D d e) → ℕ
-  pulled e (yes f) = κ (f .0)
-  pulled e (no n) = W′ .power e
+  record Pulled (e : W′ .Del) : Type 0 where
+    level : ℕ
+    at : {d : W .Del} → D d e → κ d ≡ level
+    rest : ((d : W .Del) → LiveUncovered G d → κ d ≡ W .power d) → LiveUncovered G′ e → level ≡ W′ .power e
+
+  pulled : (e : W′ .Del) → Pulled e
+  pulled e = elim (seek′ e) [
+    | yes f ↦ record {
+      level = κ (f .0);
+      at = λ s. ap κ (a .alone s (f .1));
+      rest = λ h u. h (f .0) (live-uncovered-match b a (f .1) u) ∙ a .power (f .1);
+    }
+    | no n ↦ record { level = W′ .power e; at = λ {d} s. absurd (n (d, s)); rest = λ h u. refl }
+  ]
 
   pub pull : W′ .Del → ℕ
-  pull e = pulled e (seek′ e)
+  pull e = pulled e .level
 
-  pull-at : {d : W .Del} {e : W′ .Del} → D d e → κ d ≡ pull e
-  unfolding pull pulled
-  pull-at {d} {e} s = go (seek′ e)
-    where
-      go : (t : Dec ((d : W .Del) × D d e)) → κ d ≡ pulled e t
-      go (yes f) = ap κ (a .alone s (f .1))
-      go (no n) = absurd (n (d, s))
+  pull-at : (d : W .Del) (e : W′ .Del) → D d e → κ d ≡ pull e
+  unfolding pull
+  pull-at d e s = pulled e .at s
 
   pull-rest : ((d : W .Del) → LiveUncovered G d → κ d ≡ W .power d) → (e : W′ .Del) → LiveUncovered G′ e → pull e ≡ W′ .power e
-  unfolding pull pulled
-  pull-rest h e u = go (seek′ e)
-    where
-      go : (t : Dec ((d : W .Del) × D d e)) → pulled e t ≡ W′ .power e
-      go (yes f) = h (f .0) (live-uncovered-match b a (f .1) u) ∙ a .power (f .1)
-      go (no m) = refl
+  unfolding pull
+  pull-rest h e = pulled e .rest h
 
-  pub pre-carry : PreFixed G κ → PreFixed G′ pull
+  pre-carry : PreFixed G κ → PreFixed G′ pull
   pre-carry p = record {
     rest = pull-rest (p .rest);
-    above = λ e v l s.
-        let f = b .find (live-held (inr v)) tt in
-        let i = avoiding-match b a {κ = pull} {κ′ = κ} (f .1) (λ e d s h. omega (arith, pull-at s)) l s in
-        let h = i .more in
-        omega (arith, p .above (f .0) (live-covered-match b a (f .1) v) (i .level) (i .holds), pull-at (f .1), a .power (f .1));
+    above = λ e v l t.
+        let f = b .find (live-held (inr v)) tt in let s = f .1 in
+        let i = avoiding-match b a {κ = pull} {κ′ = κ} (λ e d s h. omega (arith, pull-at d e s)) s l t in
+        omega (arith, p .above (f .0) (live-covered-match b a s v) _ (i .holds), pull-at (f .0) e s, a .power s);
   }
 
 module _ {W W′ : Shape} {G : Graph W} {G′ : Graph W′} {K : W .Key → W′ .Key → Type 0} {D : W .Del → W′ .Del → Type 0}
     (a : Match G G′ K D Every Every) (b : Match G′ G (λ x y. K y x) (λ d e. D e d) Every Every)
     (seek : (d : W .Del) → Dec ((e : W′ .Del) × D d e)) (seek′ : (e : W′ .Del) → Dec ((d : W .Del) × D d e)) where
-  pub caps-carry : {κ : W .Del → ℕ} → Caps G κ → Caps G′ (pull a b seek′ κ)
+  -- So caps of the one give caps of the other.
+  caps-carry : {κ : W .Del → ℕ} → Caps G κ → Caps G′ (pull a b seek′ κ)
   caps-carry {κ} k = record {
     rest = pull-rest a b seek′ κ (k .rest);
     equation = λ e v.
-        let f = b .find (live-held (inr v)) tt in
-        let q = k .equation (f .0) (live-covered-match b a (f .1) v) in
+        let f = b .find (live-held (inr v)) tt in let s = f .1 in
+        let q = k .equation (f .0) (live-covered-match b a s v) in
         record {
           level = q .level;
-          greatest = answer-carry (avoiding-match a b (f .1) (λ d e s h. omega (arith, pull-at a b seek′ κ s)))
-              (avoiding-match b a (f .1) (λ e d s h. omega (arith, pull-at a b seek′ κ s))) (q .greatest);
-          equation = sym (pull-at a b seek′ κ (f .1)) ∙ (q .equation ∙ ap (λ p. Capped p (q .level)) (a .power (f .1)));
+          greatest = answer-carry (avoiding-match a b (λ d e s h. omega (arith, at d e s)) s) (avoiding-match b a (λ e d s h. omega (arith, at d e s)) s)
+              (q .greatest);
+          equation = cc (at (f .0) e s, q .equation, a .power s);
         };
     least = λ κ′ p e v.
-        let f = b .find (live-held (inr v)) tt in
-        omega (
-          arith,
-          k .least (pull b a seek κ′) (pre-carry b a seek κ′ p) (f .0) (live-covered-match b a (f .1) v),
-          pull-at a b seek′ κ (f .1),
-          pull-at b a seek κ′ (f .1),
-        );
+        let f = b .find (live-held (inr v)) tt in let s = f .1 in
+        omega (arith, k .least _ (pre-carry b a seek κ′ p) (f .0) (live-covered-match b a s v), at (f .0) e s, pull-at b a seek κ′ e (f .0) s);
   }
-
-  pub effective-carry : {r x : W .Key} {r′ x′ : W′ .Key} {o : Option ℕ} → K r r′ → K x x′ → EffectiveIs G r x o → EffectiveIs G′ r′ x′ o
-  effective-carry i j q = record {
-    κ = pull a b seek′ (q .κ);
-    caps = caps-carry (q .caps);
-    answer = effective-same a b seek seek′ (q .caps) (caps-carry (q .caps)) tt i j (q .answer);
-  }
-
-  pub conveyed-carry : {d : W .Del} {e : W′ .Del} {o : Option ℕ} → D d e → ConveyedIs G d o → ConveyedIs G′ e o
-  conveyed-carry s q = record {
-    κ = pull a b seek′ (q .κ);
-    caps = caps-carry (q .caps);
-    conveys = conveys-same a b seek seek′ (q .caps) (caps-carry (q .caps)) s (q .conveys);
-  }
+    where
+      at : (d : W .Del) (e : W′ .Del) → D d e → κ d ≡ pull a b seek′ κ e
+      at = pull-at a b seek′ κ
 
 -- A table of keys and one of delegations. Place x: the place x is in use.
 pub record Table {W W′ : Shape} (G : Graph W) (G′ : Graph W′) (Place : W .Key → Type 0) (key : W .Key → W′ .Key) (del : W .Del → W′ .Del) : Type 0 where
@@ -115,24 +103,24 @@ module _ {W W′ : Shape} {G : Graph W} {G′ : Graph W′} {Place : W .Key → 
 
   pub into : Match G G′ At DelAt Every Every
   into = record {
-    one = λ p q. t .apart (p .0) (q .0) (p .1 ∙ sym (q .1));
-    alone = λ p q. t .distinct (p .0) (q .0) (p .1 ∙ sym (q .1));
+    one = λ p q. t .apart (p .0) (q .0) (cc (p .1, q .1));
+    alone = λ p q. t .distinct (p .0) (q .0) (cc (p .1, q .1));
     scope = λ ρ k. tt;
     grow = λ ρ s. tt;
     inside = λ p. tt;
     find = λ {d} h ρ. (del d, (h, refl));
-    held = λ p. subst (G′ .Held) (p .1) (t .held (p .0));
-    issuer = λ p. let q = t .issuer (p .0) in (q .0, q .1 ∙ ap (W′ .issuer) (p .1));
-    audience = λ p. let q = t .audience (p .0) in (q .0, q .1 ∙ ap (W′ .audience) (p .1));
-    subject = λ p. let q = t .subject (p .0) in (q .0, q .1 ∙ ap (W′ .subject) (p .1));
-    power = λ p. t .power (p .0) ∙ ap (W′ .power) (p .1);
-    revokes = λ {k} p r. let q = t .revokes (p .0) r in (key k, (q .0, refl), subst (λ e. G′ .Revokes (key k) e) (p .1) (q .1));
+    held = λ p. rw (p .1) at (t .held (p .0));
+    issuer = λ p. rw (p .1) at (t .issuer (p .0));
+    audience = λ p. rw (p .1) at (t .audience (p .0));
+    subject = λ p. rw (p .1) at (t .subject (p .0));
+    power = λ p. rw (p .1) at (t .power (p .0));
+    revokes = λ {k} p r. let q = t .revokes (p .0) r in (key k, (q .0, refl), rw (p .1) at (q .1));
   }
 
   pub outof : Match G′ G (λ x y. At y x) (λ d e. DelAt e d) Every Every
   outof = record {
-    one = λ p q. sym (p .1) ∙ q .1;
-    alone = λ p q. sym (p .1) ∙ q .1;
+    one = λ p q. cc (p .1, q .1);
+    alone = λ p q. cc (p .1, q .1);
     scope = λ ρ k. tt;
     grow = λ ρ s. tt;
     inside = λ p. tt;
@@ -142,35 +130,39 @@ module _ {W W′ : Shape} {G : Graph W} {G′ : Graph W′} {Place : W .Key → 
     audience = into .audience;
     subject = into .subject;
     power = λ p. sym (into .power p);
-    revokes = λ {k} p r. t .revoked (p .0) (subst (λ e. G′ .Revokes k e) (sym (p .1)) r);
+    revokes = λ p r. t .revoked (p .0) (rw (← (p .1)) at r);
   }
 
   seek-del : (d : W .Del) → Dec ((e : W′ .Del) × DelAt d e)
-  seek-del d = elim (t .decide d) [ yes h ↦ yes (del d, (h, refl)) | no n ↦ no (λ f. n (f .1 .0)) ]
+  seek-del d = Dec·of-iff (λ h. (del d, (h, refl)), λ f. f .1 .0) (t .decide d)
 
   pub seek-place : (e : W′ .Del) → Dec ((d : W .Del) × DelAt d e)
-  seek-place e = elim (t .seek e) [ yes h ↦ yes (outof .find h tt) | no n ↦ no (λ f. n (into .held (f .1))) ]
+  seek-place e = Dec·of-iff (λ h. outof .find h tt, λ f. into .held (f .1)) (t .seek e)
 
+  pub caps-bytes : {κ : W .Del → ℕ} → Caps G κ → Caps G′ (pull into outof seek-place κ)
+  caps-bytes = caps-carry into outof seek-del seek-place
+
+  -- Of two keys in use.
   pub positive-bytes : {r x : W .Key} {o : Option ℕ} → Place r → Place x → PositiveIs G r x o → PositiveIs G′ (key r) (key x) o
   positive-bytes p q = positive-same into outof tt (p, refl) (q, refl)
 
+  pub effective-bytes : {r x : W .Key} {o : Option ℕ} → Place r → Place x → EffectiveIs G r x o → EffectiveIs G′ (key r) (key x) o
+  effective-bytes p q a = let k = caps-bytes (a .caps) in
+      record { κ = _; caps = k; answer = effective-same into outof seek-del seek-place (a .caps) k tt (p, refl) (q, refl) (a .answer) }
+
+  pub node-bytes : {r x : W .Key} → Place r → Place x → Node G r x ↔ Node G′ (key r) (key x)
+  node-bytes {r} {x} p q = (
+    (λ n. let i = positive-under into outof {r′ = key r} {x′ = key x} tt (p, refl) (q, refl) _ (n .stands) in record { level = i .level; stands = i .holds }),
+    (λ n. let i = positive-under outof into {r′ = r} {x′ = x} tt (p, refl) (q, refl) _ (n .stands) in record { level = i .level; stands = i .holds }),
+  )
+
+  -- Of a held delegation.
   pub live-bytes : {d : W .Del} → G .Held d → Live G d ↔ Live G′ (del d)
   live-bytes h = live-same into outof (h, refl)
 
   pub standing-bytes : {d : W .Del} {o : Standing} → G .Held d → StandingIs G d o → StandingIs G′ (del d) o
   standing-bytes h = standing-same into outof (h, refl)
 
-  pub effective-bytes : {r x : W .Key} {o : Option ℕ} → Place r → Place x → EffectiveIs G r x o → EffectiveIs G′ (key r) (key x) o
-  effective-bytes p q = effective-carry into outof seek-del seek-place (p, refl) (q, refl)
-
   pub conveyed-bytes : {d : W .Del} {o : Option ℕ} → G .Held d → ConveyedIs G d o → ConveyedIs G′ (del d) o
-  conveyed-bytes h = conveyed-carry into outof seek-del seek-place (h, refl)
-
-  pub caps-bytes : {κ : W .Del → ℕ} → Caps G κ → Caps G′ (pull into outof seek-place κ)
-  caps-bytes = caps-carry into outof seek-del seek-place
-
-  pub node-bytes : {r x : W .Key} → Place r → Place x → Node G r x ↔ Node G′ (key r) (key x)
-  node-bytes {r} {x} p q = (
-    (λ n. let i = positive-under into outof {r′ = key r} {x′ = key x} tt (p, refl) (q, refl) (n .level) (n .stands) in record { level = i .level; stands = i .holds }),
-    (λ n. let i = positive-under outof into {r′ = r} {x′ = x} tt (p, refl) (q, refl) (n .level) (n .stands) in record { level = i .level; stands = i .holds }),
-  )
+  conveyed-bytes h a = let k = caps-bytes (a .caps) in
+      record { κ = _; caps = k; conveys = conveys-same into outof seek-del seek-place (a .caps) k (h, refl) (a .conveys) }
