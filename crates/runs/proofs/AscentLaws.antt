@@ -1,150 +1,145 @@
--- The order of runs; a sorted list is the ascending list of the runs that it was made from. Rests on MemberLaws and on `rules`, where two
--- ascending lists of the same things are one.
+-- The order of runs, and sorting: a sorted list is the ascending list of the runs that it was made from.
+-- The order is stated as a relation (`Below`), whose laws are plain. `compare` settles once how two runs stand to each other, and what the
+-- test `ltBytes` says of them; all that is asked of the test, and of an insertion that goes by it, follows its three cases.
+-- Rests on MemberLaws, and on `rules`, where two ascending lists of the same things are one.
 use Prim.Native.Nat.{ℕ, _<_}
-use mathlib.Core.Path.{_≡_, refl, sym, ap, _∙_, subst}
-use mathlib.Core.Bool.{Bool, true, false, cond, false≢true}
+use mathlib.Core.Path.{_≡_, refl, sym, _∙_}
+use mathlib.Core.Bool.{true, false, true≢false}
 use mathlib.Core.Logic.{_⊎_, inl, inr}
 use mathlib.Core.List.{List, [], _∷_, List·Memᴰ, List·Memᴰ·cases-cons, List·Memᴰ·not-nil}
 use native.Mathlib.Omega.{arith}
-use lib.Dec.{eqb, ltb}
-use borrow.Author.Tests.{eqb-true, eqb-false, ltb-true, ltb-false, lt-ltb, le-ltb, eq-eqb}
+use native.Mathlib.Nat.{le-trans, le-of-lt}
+use native.Mathlib.Decide.{decLt}
+use borrow.Author.Tests.{lt-ltb, le-ltb, eq-eqb, ne-eqb}
 use Rattle.rules.specs.Rules.{Ascending, done, before, Lists}
 use Rattle.rules.proofs.Evaluation.Listing.{lists-same}
 use Rattle.runs.specs.Bytes.{Bytes, Less, eqBytes, ltBytes}
 use Rattle.runs.specs.Members.{has, SameRuns}
 use Rattle.runs.specs.Sorted.{inserted, sortedInto, sorted}
-use Rattle.runs.proofs.BoolLaws.{or, or-cases}
-use Rattle.runs.proofs.ByteLaws.{eq-true}
+use Rattle.runs.proofs.BoolLaws.{or, or-cases, or-none, or-assoc, or-swap, or-twice}
+use Rattle.runs.proofs.ByteLaws.{eq-true, eq-same, eq-false}
 use Rattle.runs.proofs.MemberLaws.{mem-has, has-mem}
 
--- ---- the order
-step : ℕ → ℕ → Bool → Bool
-step a b t = cond (ltb a b) true (cond (eqb a b) t false)
+-- ---- the order as a relation
+-- x ends first, or has the smaller byte where the two first differ
+data Below : Bytes → Bytes → Type 0 where
+  ends : {b : ℕ} {y : Bytes} → Below [] (b ∷ y)
+  here : {a b : ℕ} {x y : Bytes} → a < b → Below (a ∷ x) (b ∷ y)
+  later : {a : ℕ} {x y : Bytes} → Below x y → Below (a ∷ x) (a ∷ y)
 
-step-cases : (a b : ℕ) (t : Bool) → step a b t ≡ true → (a < b) ⊎ ((a ≡ b) × (t ≡ true))
-unfolding step
-step-cases a b t h = go (ltb a b) (eqb a b) refl refl h
-  where
-    go : (u v : Bool) → ltb a b ≡ u → eqb a b ≡ v → cond u true (cond v t false) ≡ true → (a < b) ⊎ ((a ≡ b) × (t ≡ true))
-    go true v p q e = inl (ltb-true a b p)
-    go false true p q e = inr (eqb-true a b q, e)
-    go false false p q e = let z : _≡_ {A = ℕ} 0 1 = cc in absurd (omega arith)
+chained : {x y z : Bytes} → Below x y → Below y z → Below x z
+chained ends (here k) = ends
+chained ends (later q) = ends
+chained (here h) (here k) = here (le-trans h (le-of-lt k))
+chained (here h) (later q) = here h
+chained (later p) (here k) = here k
+chained (later p) (later q) = later (chained p q)
 
-step-below : (a b : ℕ) (t : Bool) → a < b → step a b t ≡ true
-unfolding step
-step-below a b t h = rw (lt-ltb a b h)
+apart : {x y : Bytes} → Below x y → ¬ (x ≡ y)
+apart ends e = let z : _≡_ {A = ℕ} 0 1 = cc in omega arith
+apart (here {a = a} {b = b} h) e = let z : a ≡ b = cc in omega arith
+apart (later q) e = apart q (cc)
 
-step-same : (a b : ℕ) (t : Bool) → a ≡ b → t ≡ true → step a b t ≡ true
-unfolding step
-step-same a b t h e = rw (le-ltb a b (omega arith), eq-eqb a b h, e)
+-- ---- the order as the test
+-- the three ways in which two runs can stand to each other, each with the outcome of the test
+data Compared (x y : Bytes) : Type 0 where
+  below : Below x y → Less x y → Compared x y
+  same : x ≡ y → ltBytes x y ≡ false → Compared x y
+  above : Below y x → ltBytes x y ≡ false → Compared x y
 
+compare : (x y : Bytes) → Compared x y
+unfolding ltBytes
+compare [] [] = same refl refl
+compare [] (b ∷ y) = below ends refl
+compare (a ∷ x) [] = above ends refl
+compare (a ∷ x) (b ∷ y) = elim (decLt a b) [
+  | yes h ↦ below (here h) (rw (lt-ltb a b h))
+  | no h ↦
+      let t = le-ltb a b (omega arith) in
+      elim (decLt b a) [
+        | yes k ↦ above (here k) (rw (t, ne-eqb a b (omega arith)))
+        | no k ↦
+            let e : a ≡ b = omega arith in
+            let s : ltBytes (a ∷ x) (b ∷ y) ≡ ltBytes x y = rw (t, eq-eqb a b e) in
+            elim (compare x y) [ below p u ↦ below (rw e (later p)) (s ∙ u) | same f u ↦ same (cc) (s ∙ u) | above p u ↦ above (rw e (later p)) (s ∙ u) ]
+      ]
+]
+
+-- so the test comes out true for exactly the runs in the order
+below-less : (x y : Bytes) → Below x y → Less x y
+below-less x y p = elim (compare x y) [ below q t ↦ t | same e t ↦ absurd (apart p e) | above q t ↦ absurd (apart (chained p q) refl) ]
+
+less-below : (x y : Bytes) → Less x y → Below x y
+less-below x y h = elim (compare x y) [ below p t ↦ p | same e t ↦ absurd (true≢false (sym h ∙ t)) | above p t ↦ absurd (true≢false (sym h ∙ t)) ]
+
+-- what the relation has, the test has
 pub lt-trans : (x y z : Bytes) → Less x y → Less y z → Less x z
-unfolding ltBytes step
-lt-trans [] [] z p q = absurd (false≢true p)
-lt-trans [] (b ∷ y) [] p q = absurd (false≢true q)
-lt-trans [] (b ∷ y) (c ∷ z) p q = refl
-lt-trans (a ∷ x) [] z p q = absurd (false≢true p)
-lt-trans (a ∷ x) (b ∷ y) [] p q = absurd (false≢true q)
-lt-trans (a ∷ x) (b ∷ y) (c ∷ z) p q =
-    elim (step-cases a b (ltBytes x y) p) [
-      | inl h ↦ elim (step-cases b c (ltBytes y z) q) [ inl k ↦ step-below a c (ltBytes x z) (omega arith) | inr k ↦ let e = k .0 in step-below a c (ltBytes x z) (omega arith) ]
-      | inr h ↦
-          let f = h .0 in
-          elim (step-cases b c (ltBytes y z) q) [
-            | inl k ↦ step-below a c (ltBytes x z) (omega arith)
-            | inr k ↦ let e = k .0 in step-same a c (ltBytes x z) (omega arith) (lt-trans x y z (h .1) (k .1))
-          ]
-    ]
+lt-trans x y z p q = below-less x z (chained (less-below x y p) (less-below y z q))
 
 pub lt-irrefl : (x : Bytes) → ¬ Less x x
-unfolding ltBytes step
-lt-irrefl [] p = false≢true p
-lt-irrefl (a ∷ x) p = elim (step-cases a a (ltBytes x x) p) [ inl h ↦ omega arith | inr h ↦ lt-irrefl x (h .1) ]
+lt-irrefl x p = apart (less-below x x p) refl
 
 pub lt-not-both : (x y : Bytes) → Less x y → ¬ Less y x
 lt-not-both x y p q = lt-irrefl x (lt-trans x y x p q)
 
--- two runs, neither below nor equal
+-- of two runs, the first neither below the second nor equal to it
 pub lt-total : (x y : Bytes) → ltBytes x y ≡ false → eqBytes y x ≡ false → Less y x
-unfolding ltBytes eqBytes step
-lt-total [] [] p q = absurd (false≢true (sym q))
-lt-total [] (b ∷ y) p q = absurd (false≢true (sym p))
-lt-total (a ∷ x) [] p q = refl
-lt-total (a ∷ x) (b ∷ y) p q = go (ltb a b) (eqb b a) refl refl p q (lt-total x y)
-  where
-    go : (u v : Bool) → ltb a b ≡ u → eqb b a ≡ v → cond u true (cond (eqb a b) (ltBytes x y) false) ≡ false → cond v (eqBytes y x) false ≡ false
-        → (ltBytes x y ≡ false → eqBytes y x ≡ false → Less y x) → step b a (ltBytes y x) ≡ true
-    go true v h k p q f = absurd (false≢true (sym p))
-    go false true h k p q f =
-        let e : b ≡ a = eqb-true b a k in
-        let r : ltBytes x y ≡ false = rw (eq-eqb a b (sym e)) at p in
-        step-same b a (ltBytes y x) e (f r q)
-    go false false h k p q f =
-        let m = ltb-false a b h in
-        let n = eqb-false b a k in
-        step-below b a (ltBytes y x) (omega arith)
+lt-total x y p q = elim (compare x y) [
+  | below r t ↦ absurd (true≢false (sym t ∙ p))
+  | same e t ↦ absurd (true≢false (sym (eq-same y x (sym e)) ∙ q))
+  | above r t ↦ below-less y x r
+]
 
--- ---- insertion keeps the order, and adds one run
-pub inserted-has : (x : Bytes) (l : List Bytes) (k : Bytes) → has (inserted x l) k ≡ or (eqBytes x k) (has l k)
+-- ---- one run put in: the list has that run more, and stays ascending
+inserted-has : (x : Bytes) (l : List Bytes) (k : Bytes) → has (inserted x l) k ≡ or (eqBytes x k) (has l k)
 unfolding inserted has
 inserted-has x [] k = refl
-inserted-has x (y ∷ l) k = go (ltBytes x y) (eqBytes y x) refl (inserted-has x l k)
-  where
-    same : (a b c : Bool) → (a ≡ true → b ≡ true) → or b c ≡ or a (or b c)
-    same true b c f = rw (f refl)
-    same false b c f = refl
+inserted-has x (y ∷ l) k = elim (compare x y) [
+  | below p t ↦ rw t
+  | same e t ↦ rw (t, eq-same y x (sym e), e) (sym (or-twice (eqBytes y k) (has l k)))
+  | above p t ↦ rw (t, eq-false y x (apart p), inserted-has x l k) (or-swap (eqBytes y k) (eqBytes x k) (has l k))
+]
 
-    swap : (a b c : Bool) → or b (or a c) ≡ or a (or b c)
-    swap true true c = refl
-    swap true false c = refl
-    swap false b c = refl
+inserted-from : (x : Bytes) (l : List Bytes) (z : Bytes) → List·Memᴰ z (inserted x l) → (z ≡ x) ⊎ List·Memᴰ z l
+inserted-from x l z m = elim (or-cases (eqBytes x z) (has l z) (sym (inserted-has x l z) ∙ mem-has z (inserted x l) m)) [
+  | inl e ↦ inl (sym (eq-true x z e))
+  | inr h ↦ inr (has-mem z l h)
+]
 
-    go : (t u : Bool) → eqBytes y x ≡ u → has (inserted x l) k ≡ or (eqBytes x k) (has l k) → has (cond t (x ∷ y ∷ l) (cond u (y ∷ l) (y ∷ inserted x l))) k ≡ or (eqBytes x k) (or (eqBytes y k) (has l k))
-    go true u e f = refl
-    go false true e f = same (eqBytes x k) (eqBytes y k) (has l k) (λ p. rw (eq-true y x e) p)
-    go false false e f = ap (λ (t : Bool). or (eqBytes y k) t) f ∙ swap (eqBytes x k) (eqBytes y k) (has l k)
-
-pub inserted-ascending : (x : Bytes) (l : List Bytes) → Ascending Less l → Ascending Less (inserted x l)
+inserted-ascending : (x : Bytes) (l : List Bytes) → Ascending Less l → Ascending Less (inserted x l)
 unfolding inserted
-inserted-ascending x [] done = before (λ y m. absurd (List·Memᴰ·not-nil m)) done
-inserted-ascending x (y ∷ l) (before b t) = go (ltBytes x y) (eqBytes y x) refl refl (inserted-ascending x l t)
-  where
-    above : Less y x → (z : Bytes) → List·Memᴰ z (inserted x l) → Less y z
-    above p z m = elim (or-cases (eqBytes x z) (has l z) (sym (inserted-has x l z) ∙ mem-has z (inserted x l) m)) [
-      | inl e ↦ subst (λ (w : Bytes). Less y w) (eq-true x z e) p
-      | inr h ↦ b z (has-mem z l h)
-    ]
+inserted-ascending x [] done = before (λ z m. absurd (List·Memᴰ·not-nil m)) done
+inserted-ascending x (y ∷ l) (before b r) = elim (compare x y) [
+  | below p t ↦ rw t (before {x = x} {xs = y ∷ l} (λ z m. elim (List·Memᴰ·cases-cons m) [ inl e ↦ rw e t | inr n ↦ lt-trans x y z t (b z n) ]) (before b r))
+  | same e t ↦ rw (t, eq-same y x (sym e)) (before b r)
+  | above p t ↦
+      let rest = inserted-ascending x l r in
+      rw (t, eq-false y x (apart p)) (before {x = y} {xs = inserted x l} (λ z m. elim (inserted-from x l z m) [ inl e ↦ rw e (below-less y x p) | inr n ↦ b z n ]) rest)
+]
 
-    go : (u v : Bool) → ltBytes x y ≡ u → eqBytes y x ≡ v → Ascending Less (inserted x l) → Ascending Less (cond u (x ∷ y ∷ l) (cond v (y ∷ l) (y ∷ inserted x l)))
-    go true v p q f =
-        before {x = x} {xs = y ∷ l} (λ z m. elim (List·Memᴰ·cases-cons {b = y} {l = l} m) [ inl e ↦ subst (λ (w : Bytes). Less x w) (sym e) p | inr n ↦ lt-trans x y z p (b z n) ]) (before {x = y} {xs = l} b t)
-    go false true p q f = before {x = y} {xs = l} b t
-    go false false p q f = before {x = y} {xs = inserted x l} (above (lt-total x y p q)) f
+-- ---- the runs of a list put in one after the other
+record Into (m l r : List Bytes) : Type 0 where
+  ascending : Ascending Less r
+  holds : (k : Bytes) → has r k ≡ or (has m k) (has l k)
 
-pub into-has : (m l : List Bytes) (k : Bytes) → has (sortedInto m l) k ≡ or (has m k) (has l k)
+into : (m l : List Bytes) → Ascending Less m → Into m l (sortedInto m l)
 unfolding sortedInto has
-into-has m [] k = last (has m k)
-  where
-    last : (t : Bool) → t ≡ or t false
-    last true = refl
-    last false = refl
-into-has m (x ∷ l) k = into-has (inserted x m) l k ∙ rw (inserted-has x m k) (shuffle (eqBytes x k) (has m k) (has l k))
-  where
-    shuffle : (a b c : Bool) → or (or a b) c ≡ or b (or a c)
-    shuffle true true c = refl
-    shuffle true false c = refl
-    shuffle false b c = refl
+into m [] a = record { ascending = a; holds = λ k. sym (or-none (has m k)) }
+into m (x ∷ l) a =
+    let r = into (inserted x m) l (inserted-ascending x m a) in
+    record {
+      ascending = r .ascending;
+      holds = λ k. r .holds k ∙ rw (inserted-has x m k) (or-assoc (eqBytes x k) (has m k) (has l k) ∙ or-swap (eqBytes x k) (has m k) (has l k));
+    }
 
 pub into-ascending : (m l : List Bytes) → Ascending Less m → Ascending Less (sortedInto m l)
-unfolding sortedInto
-into-ascending m [] a = a
-into-ascending m (x ∷ l) a = into-ascending (inserted x m) l (inserted-ascending x m a)
+into-ascending m l a = into m l a .ascending
 
 pub sorted-has : (l : List Bytes) (k : Bytes) → has (sorted l) k ≡ has l k
 unfolding has
-sorted-has l k = into-has [] l k
+sorted-has l k = into [] l done .holds k
 
--- ascending, sound, complete
+-- a sorted list is what the rules call a list of the runs: ascending, sound, complete
 pub sorted-lists : (l : List Bytes) → Lists Less (λ x. has l x ≡ true) (sorted l)
 sorted-lists l = record {
   ascending = into-ascending [] l done;
@@ -152,6 +147,6 @@ sorted-lists l = record {
   complete = λ x h. has-mem x (sorted l) (sorted-has l x ∙ h);
 }
 
--- the list is settled by the runs that stand in it
+-- so the list is settled by the runs that stand in it, in whatever order they came
 pub sorted-same : (l m : List Bytes) → SameRuns l m → sorted l ≡ sorted m
 sorted-same l m f = lists-same lt-not-both (λ x h. sym (f x) ∙ h) (λ x h. f x ∙ h) (sorted-lists l) (sorted-lists m)

@@ -1,215 +1,138 @@
--- Which runs stand in a list, and where; lists with no run twice, and how many such a list can have. Rests on BoolLaws and ByteLaws.
+-- Which runs stand in a list, and where; lists with no run twice, and how many such a list can have.
+-- A list holds a run or it does not, and `has`, `place` and what stands at that place go together: `found` says so by one induction, and
+-- what is asked of them one by one is read off it. Rests on BoolLaws and ByteLaws.
 use Prim.Native.Nat.{ℕ, zero, suc, _+_, _≤_, _<_, zero-le, suc-le-suc}
 use mathlib.Core.Path.{_≡_, refl, sym, ap, _∙_}
-use mathlib.Core.Bool.{Bool, true, false, cond, false≢true}
+use mathlib.Core.Bool.{true, false, true≢false}
 use mathlib.Core.Logic.{inl, inr}
-use mathlib.Core.List.{List, [], _∷_, _++_, List·Memᴰ, List·Memᴰ·head, List·Memᴰ·tail, List·Memᴰ·cases-cons, List·Memᴰ·not-nil}
+use mathlib.Core.List.{List, [], _∷_, _++_, List·Memᴰ, List·Memᴰ·head, List·Memᴰ·tail, Memᴰ·append-right}
+use mathlib.Mathlib.Data.Bool.Basic.{dichotomy}
 use native.Mathlib.Omega.{arith}
 use native.Mathlib.Nat.{le-of-suc-le-suc, not-suc-le-zero, le-antisymm}
-use lib.ListN.{length, getD, length-append, List·getD-append}
-use lib.Seq.{getD-append-seam}
-use lib.Dec.{ltb}
-use borrow.Author.Tests.{ltb-true, ltb-false}
+use native.Mathlib.Decide.{decLt}
+use lib.ListN.{length, take, drop, getD, length-append, List·getD-append}
+use lib.Seq.{getD-append-seam, split-at}
 use Rattle.runs.specs.Bytes.{Bytes, eqBytes}
 use Rattle.runs.specs.Members.{place, has, Distinct, SameRuns}
-use Rattle.runs.proofs.BoolLaws.{or, or-right}
+use Rattle.runs.proofs.BoolLaws.{or, or-right, or-assoc}
 use Rattle.runs.proofs.ByteLaws.{eq-true, eq-refl, eq-false}
 
--- ---- the first place
-pub place-le : (l : List Bytes) (k : Bytes) → place l k ≤ length l
-unfolding place
-place-le [] k = zero-le
-place-le (x ∷ l) k = go (eqBytes x k) (place-le l k)
-  where
-    go : (t : Bool) → place l k ≤ length l → cond t 0 (suc (place l k)) ≤ suc (length l)
-    go true p = zero-le
-    go false p = suc-le-suc p
+-- ---- one run
+data Found (l : List Bytes) (k : Bytes) : Type 0 where
+  held : has l k ≡ true → place l k < length l → ((d : Bytes) → getD l (place l k) d ≡ k) → Found l k
+  absent : has l k ≡ false → place l k ≡ length l → Found l k
 
--- what stands at a key's first place is the key
-pub getD-place : (l : List Bytes) (k d : Bytes) → place l k < length l → getD l (place l k) d ≡ k
-unfolding place
-getD-place [] k d h = absurd (not-suc-le-zero h)
-getD-place (x ∷ l) k d h = go (eqBytes x k) refl (getD-place l k d) h
-  where
-    go : (t : Bool) → eqBytes x k ≡ t → (place l k < length l → getD l (place l k) d ≡ k) → cond t 0 (suc (place l k)) < suc (length l) → getD (x ∷ l) (cond t 0 (suc (place l k))) d ≡ k
-    go true e f p = eq-true x k e
-    go false e f p = f (le-of-suc-le-suc p)
-
--- a run that is not held stands at the end once it is added, and the others stand where they stood
-place-left : (l m : List Bytes) (k : Bytes) → place l k < length l → place (l ++ m) k ≡ place l k
-unfolding place
-place-left [] m k h = absurd (not-suc-le-zero h)
-place-left (x ∷ l) m k h = go (eqBytes x k) (place-left l m k) h
-  where
-    go : (t : Bool) → (place l k < length l → place (l ++ m) k ≡ place l k) → cond t 0 (suc (place l k)) < suc (length l) → cond t 0 (suc (place (l ++ m) k)) ≡ cond t 0 (suc (place l k))
-    go true f p = refl
-    go false f p = ap suc (f (le-of-suc-le-suc p))
-
-place-new : (l : List Bytes) (k : Bytes) → place l k ≡ length l → place (l ++ (k ∷ [])) k ≡ length l
-unfolding place
-place-new [] k h = simp (eq-refl k)
-place-new (x ∷ l) k h = go (eqBytes x k) (place-new l k) h
-  where
-    go : (t : Bool) → (place l k ≡ length l → place (l ++ (k ∷ [])) k ≡ length l) → cond t 0 (suc (place l k)) ≡ suc (length l) → cond t 0 (suc (place (l ++ (k ∷ [])) k)) ≡ suc (length l)
-    go true f p = absurd (omega (arith, p))
-    go false f p = ap suc (f (omega (arith, p)))
-
-pub distinct-snoc : (l : List Bytes) (k : Bytes) → Distinct l → place l k ≡ length l → Distinct (l ++ (k ∷ []))
-distinct-snoc l k f h i p = go (ltb i (length l)) refl
-  where
-    go : (t : Bool) → ltb i (length l) ≡ t → place (l ++ (k ∷ [])) (getD (l ++ (k ∷ [])) i []) ≡ i
-    go true q =
-        let r : i < length l = ltb-true _ _ q in
-        let e : place l (getD l i []) ≡ i = f i r in
-        rw (List·getD-append l (k ∷ []) [] i r) (place-left l (k ∷ []) (getD l i []) (omega arith) ∙ e)
-    go false q =
-        let u : i < length l + 1 = rw length-append at p in
-        let v : length l ≤ i = ltb-false _ _ q in
-        let e : i ≡ length l = omega arith in
-        rw (e, getD-append-seam) (place-new l k h)
-
--- a run stands in a list exactly when its first place is within
-pub has-within : (l : List Bytes) (k : Bytes) → has l k ≡ true → place l k < length l
+found : (l : List Bytes) (k : Bytes) → Found l k
 unfolding has place
-has-within [] k h = let z : _≡_ {A = ℕ} 0 1 = cc in absurd (omega arith)
-has-within (x ∷ l) k h = go (eqBytes x k) (has-within l k) h
-  where
-    go : (t : Bool) → (has l k ≡ true → place l k < length l) → cond t true (has l k) ≡ true → cond t 0 (suc (place l k)) < suc (length l)
-    go true f e = suc-le-suc zero-le
-    go false f e = suc-le-suc (f e)
+found [] k = absent refl refl
+found (x ∷ l) k = elim (dichotomy (eqBytes x k)) [
+  | inl n ↦ elim (found l k) [ held h p g ↦ held (rw n h) (rw n (suc-le-suc p)) (λ d. rw n (g d)) | absent h p ↦ absent (rw n h) (rw n (ap suc p)) ]
+  | inr e ↦ held (rw e) (rw e (suc-le-suc zero-le)) (λ d. rw e (eq-true x k e))
+]
+
+pub place-le : (l : List Bytes) (k : Bytes) → place l k ≤ length l
+place-le l k = elim (found l k) [ held h p g ↦ omega arith | absent h p ↦ omega arith ]
+
+-- what stands at a run's first place is the run
+pub getD-place : (l : List Bytes) (k d : Bytes) → place l k < length l → getD l (place l k) d ≡ k
+getD-place l k d i = elim (found l k) [ held h p g ↦ g d | absent h p ↦ absurd (omega arith) ]
+
+-- it is held exactly when that place is within the list
+pub has-within : (l : List Bytes) (k : Bytes) → has l k ≡ true → place l k < length l
+has-within l k i = elim (found l k) [ held h p g ↦ p | absent h p ↦ absurd (true≢false (sym i ∙ h)) ]
 
 pub has-not : (l : List Bytes) (k : Bytes) → has l k ≡ false → place l k ≡ length l
-unfolding has place
-has-not [] k h = refl
-has-not (x ∷ l) k h = go (eqBytes x k) (has-not l k) h
-  where
-    go : (t : Bool) → (has l k ≡ false → place l k ≡ length l) → cond t true (has l k) ≡ false → cond t 0 (suc (place l k)) ≡ suc (length l)
-    go true f e = let z : _≡_ {A = ℕ} 0 1 = cc in absurd (omega arith)
-    go false f e = ap suc (f e)
+has-not l k i = elim (found l k) [ held h p g ↦ absurd (true≢false (sym h ∙ i)) | absent h p ↦ p ]
 
 pub within-has : (l : List Bytes) (k : Bytes) → place l k < length l → has l k ≡ true
-within-has l k h = go (has l k) refl
-  where
-    go : (t : Bool) → has l k ≡ t → t ≡ true
-    go true e = refl
-    go false e = absurd (omega (arith, has-not l k e, h))
+within-has l k i = elim (found l k) [ held h p g ↦ h | absent h p ↦ absurd (omega arith) ]
 
 pub end-not : (l : List Bytes) (k : Bytes) → length l ≤ place l k → has l k ≡ false
-end-not l k h = go (has l k) refl
-  where
-    go : (t : Bool) → has l k ≡ t → t ≡ false
-    go true e = absurd (omega (arith, has-within l k e, h))
-    go false e = refl
+end-not l k i = elim (found l k) [ held h p g ↦ absurd (omega arith) | absent h p ↦ h ]
 
-pub has-append : (l m : List Bytes) (k : Bytes) → has (l ++ m) k ≡ or (has l k) (has m k)
-unfolding has
-has-append [] m k = refl
-has-append (x ∷ l) m k = go (eqBytes x k) (has-append l m k)
-  where
-    go : (t : Bool) → has (l ++ m) k ≡ or (has l k) (has m k) → cond t true (has (l ++ m) k) ≡ or (cond t true (has l k)) (has m k)
-    go true e = refl
-    go false e = e
-
+-- what stands at any place is held
 pub has-get : (l : List Bytes) (i : ℕ) → i < length l → has l (getD l i []) ≡ true
 unfolding has
 has-get [] i h = absurd (not-suc-le-zero h)
 has-get (x ∷ l) zero h = rw (eq-refl x)
-has-get (x ∷ l) (suc i) h = go (eqBytes x (getD l i [])) (has-get l i (le-of-suc-le-suc h))
-  where
-    go : (t : Bool) → has l (getD l i []) ≡ true → cond t true (has l (getD l i [])) ≡ true
-    go true e = refl
-    go false e = e
+has-get (x ∷ l) (suc i) h = or-right (eqBytes x (getD l i [])) _ (has-get l i (le-of-suc-le-suc h))
+
+-- ---- two lists, one behind the other
+pub has-append : (l m : List Bytes) (k : Bytes) → has (l ++ m) k ≡ or (has l k) (has m k)
+unfolding has
+has-append [] m k = refl
+has-append (x ∷ l) m k = rw (has-append l m k) (sym (or-assoc (eqBytes x k) (has l k) (has m k)))
+
+-- what the first has stands where it stood, and the rest behind it
+place-left : (l m : List Bytes) (k : Bytes) → has l k ≡ true → place (l ++ m) k ≡ place l k
+unfolding has place
+place-left [] m k h = absurd (true≢false (sym h))
+place-left (x ∷ l) m k h = elim (dichotomy (eqBytes x k)) [ inl n ↦ rw n (ap suc (place-left l m k (rw n at h))) | inr e ↦ rw e ]
+
+place-right : (l m : List Bytes) (k : Bytes) → has l k ≡ false → place (l ++ m) k ≡ length l + place m k
+unfolding has place
+place-right [] m k h = omega arith
+place-right (x ∷ l) m k h = elim (dichotomy (eqBytes x k)) [ inl n ↦ rw n (omega (arith, place-right l m k (rw n at h))) | inr e ↦ absurd (true≢false (rw e at h)) ]
+
+-- a list that has x is what stands before x, x itself, and what stands behind it; taken out, x is all that it lacks
+around : (l : List Bytes) (x : Bytes) → has l x ≡ true → (a b : List Bytes) × (l ≡ a ++ (x ∷ b))
+around l x h = let p = has-within l x h in (take (place l x) l, drop (suc (place l x)) l, rw (getD-place l x [] p) at (split-at l (place l x) [] p))
+
+without : (a b : List Bytes) (x k : Bytes) → eqBytes x k ≡ false → has (a ++ (x ∷ b)) k ≡ has (a ++ b) k
+unfolding has
+without a b x k n = rw (has-append a (x ∷ b) k, has-append a b k, n)
+
+-- ---- as membership, of which the rules speak
+pub mem-has : (x : Bytes) (l : List Bytes) → List·Memᴰ x l → has l x ≡ true
+unfolding has
+mem-has x (y ∷ l) (List·Memᴰ·head e) = rw (e, eq-refl y)
+mem-has x (y ∷ l) (List·Memᴰ·tail m) = or-right (eqBytes y x) (has l x) (mem-has x l m)
+
+pub has-mem : (x : Bytes) (l : List Bytes) → has l x ≡ true → List·Memᴰ x l
+has-mem x l h = let s = around l x h in rw (s .2) (Memᴰ·append-right (s .0) (List·Memᴰ·head refl))
 
 -- ---- lists with no run twice
+-- a run that is not held may be added at the end
+pub distinct-snoc : (l : List Bytes) (k : Bytes) → Distinct l → place l k ≡ length l → Distinct (l ++ (k ∷ []))
+unfolding place
+distinct-snoc l k f h i p = elim (decLt i (length l)) [
+  | yes r ↦ rw (List·getD-append l (k ∷ []) [] i r) (place-left l (k ∷ []) (getD l i []) (has-get l i r) ∙ f i r)
+  | no r ↦
+      let e : i ≡ length l = omega (arith, length-append l (k ∷ [])) in
+      rw (e, getD-append-seam) (place-right l (k ∷ []) k (end-not l k (omega arith)) ∙ rw (eq-refl k) (omega arith))
+]
+
+-- a list without a repetition is a first run that the rest has not, and such a rest
 pub distinct-head : (x : Bytes) (l : List Bytes) → Distinct (x ∷ l) → has l x ≡ false
 unfolding place
-distinct-head x l d = go (has l x) refl
-  where
-    go : (t : Bool) → has l x ≡ t → t ≡ false
-    go true e =
-        let p = has-within l x e in
-        let q : place (x ∷ l) (getD l (place l x) []) ≡ suc (place l x) = d (suc (place l x)) (suc-le-suc p) in
-        let r : cond (eqBytes x x) 0 (suc (place l x)) ≡ suc (place l x) = rw (getD-place l x [] p) at q in
-        let u : 0 ≡ suc (place l x) = rw (eq-refl x) at r in
-        absurd (omega arith)
-    go false e = refl
+distinct-head x l d = elim (found l x) [
+  | held h p g ↦ let e : 0 ≡ suc (place l x) = rw (g [], eq-refl x) at (d (suc (place l x)) (suc-le-suc p)) in absurd (omega arith)
+  | absent h p ↦ h
+]
 
 pub distinct-tail : (x : Bytes) (l : List Bytes) → Distinct (x ∷ l) → Distinct l
 unfolding place
-distinct-tail x l d i h = go (eqBytes x (getD l i [])) (d (suc i) (suc-le-suc h))
-  where
-    go : (t : Bool) → cond t 0 (suc (place l (getD l i []))) ≡ suc i → place l (getD l i []) ≡ i
-    go true e = absurd (omega (arith, e))
-    go false e = omega (arith, e)
+distinct-tail x l d i h = elim (dichotomy (eqBytes x (getD l i []))) [
+  | inl n ↦ omega (arith, rw n at (d (suc i) (suc-le-suc h)))
+  | inr e ↦ absurd (omega (arith, rw e at (d (suc i) (suc-le-suc h))))
+]
 
 -- two places hold one run only if they are one
 pub distinct-same : (l : List Bytes) → Distinct l → (i j : ℕ) → i < length l → j < length l → getD l i [] ≡ getD l j [] → i ≡ j
 distinct-same l d i j p q e = sym (d i p) ∙ rw e (d j q)
 
--- l less the first x
-unfoldable less : Bytes → List Bytes → List Bytes
-less x [] = []
-less x (y ∷ l) = cond (eqBytes y x) l (y ∷ less x l)
-
-less-long : (x : Bytes) (l : List Bytes) → has l x ≡ true → length l ≡ suc (length (less x l))
-unfolding less has
-less-long x [] h = let z : _≡_ {A = ℕ} 0 1 = cc in absurd (omega arith)
-less-long x (y ∷ l) h = go (eqBytes y x) (less-long x l) h
-  where
-    go : (t : Bool) → (has l x ≡ true → length l ≡ suc (length (less x l))) → cond t true (has l x) ≡ true → suc (length l) ≡ suc (length (cond t l (y ∷ less x l)))
-    go true f e = refl
-    go false f e = ap suc (f e)
-
-less-has : (x k : Bytes) (l : List Bytes) → eqBytes x k ≡ false → has l k ≡ true → has (less x l) k ≡ true
-unfolding less has
-less-has x k [] n h = h
-less-has x k (y ∷ l) n h = go (eqBytes y x) (eqBytes y k) refl refl (less-has x k l n) h
-  where
-    go : (t u : Bool) → eqBytes y x ≡ t → eqBytes y k ≡ u → (has l k ≡ true → has (less x l) k ≡ true) → cond u true (has l k) ≡ true → has (cond t l (y ∷ less x l)) k ≡ true
-    go true true a b f e =
-        let p : eqBytes x k ≡ true = rw (← eq-true y x a) b in
-        let z : _≡_ {A = Bool} true false = sym p ∙ n in
-        let y : _≡_ {A = ℕ} 0 1 = cc in
-        absurd (omega arith)
-    go true false a b f e = e
-    go false true a b f e = rw b
-    go false false a b f e = rw b (f e)
-
--- distinct runs that all stand in m are no more than m
+-- distinct runs that all stand in m are no more than m: the first of them stands somewhere in m, and the others stand before or behind it
 pub within-le : (l m : List Bytes) → Distinct l → ((k : Bytes) → has l k ≡ true → has m k ≡ true) → length l ≤ length m
+unfolding has
 within-le [] m d f = zero-le
 within-le (x ∷ l) m d f =
-    let a = less-long x m (f x (has-get (x ∷ l) 0 (suc-le-suc zero-le))) in
-    let b = within-le l (less x m) (distinct-tail x l d) (λ k h. less-has x k m (apart k h) (f k (further k h))) in
-    omega arith
+    let s = around m x (f x (rw (eq-refl x))) in
+    let r = within-le l (s .0 ++ s .1) (distinct-tail x l d) (λ k h. rw (s .2, without (s .0) (s .1) x k (apart k h)) at (f k (or-right (eqBytes x k) (has l k) h))) in
+    omega (arith, simp length-append at (ap length (s .2)), length-append (s .0) (s .1))
   where
     apart : (k : Bytes) → has l k ≡ true → eqBytes x k ≡ false
-    apart k h = eq-false x k (λ e. let z : _≡_ {A = Bool} true false = sym h ∙ (rw (← e) (distinct-head x l d)) in let y : _≡_ {A = ℕ} 0 1 = cc in absurd (omega arith))
+    apart k h = eq-false x k (λ e. true≢false (sym h ∙ (rw e at (distinct-head x l d))))
 
-    further : (k : Bytes) → has l k ≡ true → has (x ∷ l) k ≡ true
-    further k h = has-append (x ∷ []) l k ∙ or-right (has (x ∷ []) k) (has l k) h
-
+-- .. so distinct runs are as many as any others that are the same
 pub same-long : (l m : List Bytes) → Distinct l → Distinct m → SameRuns l m → length l ≡ length m
 same-long l m d e f = le-antisymm (within-le l m d (λ k h. sym (f k) ∙ h)) (within-le m l e (λ k h. f k ∙ h))
-
--- ---- as membership
-pub mem-has : (x : Bytes) (l : List Bytes) → List·Memᴰ x l → has l x ≡ true
-unfolding has
-mem-has x [] m = absurd (List·Memᴰ·not-nil m)
-mem-has x (y ∷ l) m = elim (List·Memᴰ·cases-cons m) [
-  | inl e ↦ rw (e, eq-refl y)
-  | inr n ↦ go (eqBytes y x) (mem-has x l n)
-]
-  where
-    go : (t : Bool) → has l x ≡ true → cond t true (has l x) ≡ true
-    go true e = refl
-    go false e = e
-
-pub has-mem : (x : Bytes) (l : List Bytes) → has l x ≡ true → List·Memᴰ x l
-unfolding has
-has-mem x [] h = absurd (false≢true h)
-has-mem x (y ∷ l) h = go (eqBytes y x) refl h (has-mem x l)
-  where
-    go : (t : Bool) → eqBytes y x ≡ t → cond t true (has l x) ≡ true → (has l x ≡ true → List·Memᴰ x l) → List·Memᴰ x (y ∷ l)
-    go true e h f = List·Memᴰ·head (sym (eq-true y x e))
-    go false e h f = List·Memᴰ·tail (f h)
