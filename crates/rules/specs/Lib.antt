@@ -3,6 +3,7 @@ pub mod Rules
 pub mod Rows
 pub mod OneClosure
 pub mod Revoking
+pub mod Readings
 pub mod Numbered
 pub mod Facts
 pub mod Specimens
