@@ -3,3 +3,4 @@ pub mod Derivations
 pub mod Evaluation
 pub mod Stores
 pub mod Plain
+pub mod Readings

@@ -2,7 +2,7 @@
 -- mistakes, as number 15 (`ends-untested`) and number 11 (`revoked-covered`), and no comparison can notice them: proofs/Readings.
 -- A reading says which delegations count as covered and which of those are eligible. What follows from that is defined here once for all
 -- readings, sentence by sentence as in Rules and under the names there with `By`; what does not depend on it is that of Rules.
--- (`plain-*` of proofs/Readings/Plain: by the reading of Rules itself these definitions are those of Rules.)
+-- (`plainly-*` of proofs/Readings/Alike: by the reading of Rules itself these definitions are those of Rules.)
 use Prim.Native.Nat.{ℕ, min, _≤_}
 use mathlib.Core.Path.{_≡_}
 use mathlib.Core.Logic.{_⊎_, _↔_}
@@ -129,3 +129,11 @@ module _ {W : Shape} (G : Graph W) (R : Reading W) where
     pub dead : {d : W .Del} → (¬ Live G d) ↔ (¬ LiveBy d)
     pub conveyed : {d : W .Del} {o p : Option ℕ} → ConveyedIs G d o → ConveyedIsBy d p → o ≡ p
     pub standing : {d : W .Del} {o p : Standing} → StandingIs G d o → StandingIsBy d p → o ≡ p
+
+  -- More: what is an answer of the one is an answer of the other, so that neither lacks an answer that the other has.
+  pub record EachWay : Type 1 where
+    pub effective : {s x : W .Key} {o : Option ℕ} → EffectiveIs G s x o ↔ EffectiveIsBy s x o
+    pub members : {Less : W .Key → W .Key → Type 0} {s : W .Key} {ms : List (W .Key × ℕ)} → MembersAre G Less s ms ↔ MembersAreBy Less s ms
+    pub live : {d : W .Del} → Live G d ↔ LiveBy d
+    pub conveyed : {d : W .Del} {o : Option ℕ} → ConveyedIs G d o ↔ ConveyedIsBy d o
+    pub standing : {d : W .Del} {o : Standing} → StandingIs G d o ↔ StandingIsBy d o

@@ -27,3 +27,8 @@ module _ {A : Type 0} {L : A → A → Type 0} (not-both : (x y : A) → L x y �
   pub lists-same : {P Q : A → Type 0} {xs ys : List A} → ((x : A) → P x → Q x) → ((x : A) → Q x → P x) → Lists L P xs → Lists L Q ys → xs ≡ ys
   lists-same f g p q = same-members (p .ascending) (q .ascending)
       (λ z m. q .complete z (f z (p .sound z m))) (λ z m. p .complete z (g z (q .sound z m)))
+
+-- A list of what is P is one of what is Q, where the same are P and Q.
+pub lists-carry : {A : Type 0} {L : A → A → Type 0} {P Q : A → Type 0} {xs : List A} → ((x : A) → P x → Q x) → ((x : A) → Q x → P x)
+    → Lists L P xs → Lists L Q xs
+lists-carry f g p = record { ascending = p .ascending; sound = λ x m. f x (p .sound x m); complete = λ x q. p .complete x (g x q) }

@@ -11,10 +11,10 @@ use Rattle.rules.proofs.Derivations.Answers.{AtLeast, just, enough}
 use Rattle.rules.proofs.Derivations.Monotone.{reach, over-edge, over-through, widen}
 
 -- Of the delegations that are P, a derivation uses finitely many: `used`.
-record Finite (W : Shape) (U P : W .Del → Type 0) (N : W .Key → Type 0) (c : W .Del → ℕ) (r x : W .Key) (l : ℕ) : Type 0 where
-  used : List (W .Del)
-  each : (e : W .Del) → List·Memᴰ e used → P e
-  stands : AtLeast (Stands W (λ e. U e ⊎ List·Memᴰ e used) N c r x) l
+pub record Finite (W : Shape) (U P : W .Del → Type 0) (N : W .Key → Type 0) (c : W .Del → ℕ) (r x : W .Key) (l : ℕ) : Type 0 where
+  pub used : List (W .Del)
+  pub each : (e : W .Del) → List·Memᴰ e used → P e
+  pub stands : AtLeast (Stands W (λ e. U e ⊎ List·Memᴰ e used) N c r x) l
 
 -- A longer list serves too.
 longer : {W : Shape} {U : W .Del → Type 0} {N : W .Key → Type 0} {c : W .Del → ℕ} {r x : W .Key} {l : ℕ} {es fs : List (W .Del)}
@@ -23,7 +23,7 @@ longer : {W : Shape} {U : W .Del → Type 0} {N : W .Key → Type 0} {c : W .Del
 longer h = widen (λ e. ⊎-map (λ u. u) (h e))
 
 module _ {W : Shape} {U P : W .Del → Type 0} {N : W .Key → Type 0} {c : W .Del → ℕ} where
-  finite : {r x : W .Key} {l : ℕ} → Stands W (λ e. U e ⊎ P e) N c r x l → Finite W U P N c r x l
+  pub finite : {r x : W .Key} {l : ℕ} → Stands W (λ e. U e ⊎ P e) N c r x l → Finite W U P N c r x l
   finite (D1 n) = record { used = []; each = λ e m. absurd (List·Memᴰ·not-nil m); stands = just (D1 n) }
   finite (D2 d (inl u) p n s) =
       let f = finite s in record { used = f .used; each = f .each; stands = over-edge d (inl u) p n (omega arith) (f .stands) }
