@@ -1,4 +1,10 @@
--- Two readings of document 01 that change no answer (specs/Readings): mistake 15 of the oracle (Endpoints).
+-- Two readings of document 01 that change no answer (specs/Readings): mistakes 15 (Endpoints) and 11 (Revoked) of the oracle.
+pub mod Settled
 pub mod LiveSet
 pub mod Alike
 pub mod Endpoints
+pub mod Live
+pub mod Levels
+pub mod Caps
+pub mod Answers
+pub mod Revoked

@@ -12,7 +12,7 @@ use Rattle.rules.proofs.Evaluation.LiveSet.{plain-not-covered}
 
 -- A level cut down to p, or Relay for none, is the least that no min(p, l) is above, for l that are P.
 module _ {P : ℕ → Type 0} (p : ℕ) where
-  capped-above : {o : Option ℕ} → Answer P o → (l : ℕ) → P l → min p l ≤ Capped p o
+  pub capped-above : {o : Option ℕ} → Answer P o → (l : ℕ) → P l → min p l ≤ Capped p o
   unfolding Capped
   capped-above (absent a) l s = absurd (a l s)
   capped-above (level g) l s = omega (arith, g .most l s)

@@ -3,28 +3,17 @@
 -- Idea: a derivation with N(d) excluded has both its ends outside (`stands-out` of Derivations/Monotone), so whoever is reached passes the
 -- two tests, asked or not.
 use Prim.Native.Nat.{ℕ}
-use mathlib.Core.Logic.{_⊎_, ⊎-map, _↔_}
+use mathlib.Core.Logic.{⊎-map, _↔_}
 use mathlib.Core.Option.{Option}
 use native.Mathlib.Omega.{arith}
-use Rattle.rules.specs.Rules.{Shape, Graph, Stands, Excluded, Covered, Uncovered, Eligible, LiveCovered, LiveUncovered, Live, PreFixed, Caps, Conveys, cap, plain, nothing, Member, StandingIs, is-live, is-revoked, is-unsupported, Standing}
-use Rattle.rules.specs.Readings.{Reading, plainly, UncoveredBy, LiveCoveredBy, LiveUncoveredBy, LiveBy, PreFixedBy, CapsBy, ConveysBy, cap-by, plain-by, nothing-by, MemberBy, StandingIsBy, live-by, revoked-by, unsupported-by, EachWay}
+use Rattle.rules.specs.Rules.{Shape, Graph, Stands, Excluded, Covered, Uncovered, Eligible, LiveCovered, LiveUncovered, Live, PreFixed, Caps, Conveys, cap, plain, nothing, Member}
+use Rattle.rules.specs.Readings.{Reading, plainly, UncoveredBy, LiveCoveredBy, LiveUncoveredBy, LiveBy, PreFixedBy, CapsBy, ConveysBy, cap-by, plain-by, nothing-by, MemberBy, EachWay}
 use Rattle.rules.proofs.Derivations.Answers.{Under, just, answer-carry, greatest-carry}
 use Rattle.rules.proofs.Derivations.Monotone.{widen, stands-out}
 use Rattle.rules.proofs.Evaluation.Listing.{lists-carry}
 use Rattle.rules.proofs.Evaluation.LiveSet.{live-in, live-induct}
 use Rattle.rules.proofs.Readings.LiveSet.{in-by, induct-by}
-
--- Standing is settled by who is live.
-module _ {W : Shape} {G : Graph W} {R : Reading W} {d : W .Del} (live : Live G d ↔ LiveBy G R d) where
-  pub standing-there : {o : Standing} → StandingIs G d o → StandingIsBy G R d o
-  standing-there (is-live v) = live-by (live .0 v)
-  standing-there (is-revoked k h n r) = revoked-by k h (λ v. n (live .1 v)) r
-  standing-there (is-unsupported h n r) = unsupported-by h (λ v. n (live .1 v)) r
-
-  pub standing-back : {o : Standing} → StandingIsBy G R d o → StandingIs G d o
-  standing-back (live-by v) = is-live (live .1 v)
-  standing-back (revoked-by k h n r) = is-revoked k h (λ v. n (live .0 v)) r
-  standing-back (unsupported-by h n r) = is-unsupported h (λ v. n (live .0 v)) r
+use Rattle.rules.proofs.Readings.Settled.{standing-there, standing-back}
 
 pub record Alike {W : Shape} (G : Graph W) (J : W .Del → Type 0) : Type 0 where
   pub there : {d : W .Del} → Eligible G d → J d

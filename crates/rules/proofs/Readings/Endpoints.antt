@@ -1,9 +1,10 @@
 -- Mistake 15 changes nothing: without the tests that issuer and subject are outside N(d), the live covered delegations are the same ones
--- (`ends-live-covered`), so the live ones are (`ends-live`), and every answer is, each way, of every store (`ends-each-way`).
+-- (`ends-live-covered`), so the live ones are (`ends-live`), and every answer is (`ends-each-way`, `ends-same`).
 -- D1 and D2 let nobody in N(d) stand, so that whoever is reached passes both tests (Alike).
 use mathlib.Core.Logic.{_↔_}
 use Rattle.rules.specs.Rules.{Shape, Graph, LiveCovered, Live}
-use Rattle.rules.specs.Readings.{EligibleAnyEnds, ends-untested, LiveCoveredBy, LiveBy, EachWay}
+use Rattle.rules.specs.Readings.{EligibleAnyEnds, ends-untested, LiveCoveredBy, LiveBy, SameAnswers, EachWay}
+use Rattle.rules.proofs.Readings.Settled.{each-way-same}
 use Rattle.rules.proofs.Readings.Alike.{Alike, live-covered-alike, live-alike, each-way-alike}
 
 module _ {W : Shape} {G : Graph W} where
@@ -21,3 +22,6 @@ module _ {W : Shape} {G : Graph W} where
 
   pub ends-each-way : EachWay G (ends-untested G)
   ends-each-way = each-way-alike ends-alike
+
+  pub ends-same : SameAnswers G (ends-untested G)
+  ends-same = each-way-same ends-each-way
