@@ -1,15 +1,24 @@
--- Two readings of document 01 that differ from Rules in words and give the same answers. The oracle has them among its deliberate
--- mistakes, as number 15 (`ends-untested`) and number 11 (`revoked-covered`), and no comparison can notice them: proofs/Readings.
--- A reading says which delegations count as covered and which of those are eligible. What follows from that is defined here once for all
--- readings, sentence by sentence as in Rules and under the names there with `By`; what does not depend on it is that of Rules.
--- (`plainly-*` of proofs/Readings/Alike: by the reading of Rules itself these definitions are those of Rules.)
+-- Readings of document 01 that differ from Rules in words and give the same answers (proofs/Readings): one of D3, and two of coverage. The
+-- oracle has the latter among its deliberate mistakes, as number 15 (`ends-untested`) and number 11 (`revoked-covered`), and no comparison
+-- can notice them. A reading of coverage says which delegations count as covered and which of those are eligible. What follows from that is
+-- defined here once for all readings, sentence by sentence as in Rules and under the names there with `By`; what does not depend on it is
+-- that of Rules. (`plainly-*` of proofs/Readings/Alike: by the reading of Rules itself these definitions are those of Rules.)
 use Prim.Native.Nat.{ℕ, min, _≤_}
 use mathlib.Core.Path.{_≡_}
 use mathlib.Core.Logic.{_⊎_, _↔_}
 use mathlib.Core.Option.{Option, none, some}
 use mathlib.Core.List.{List, List·Memᴰ}
-use Rattle.rules.specs.Rules.{Shape, Graph, Stands, Greatest, Answer, Nobody, Capped, Standing, live, revoked, unsupported, Excluded, Covered, Eligible, Reached, Live, StandingIs, EffectiveIs, ConveyedIs, Lists, MembersAre}
+use Rattle.rules.specs.Rules.{Admin, Shape, Graph, Stands, Greatest, Answer, Nobody, Capped, Standing, live, revoked, unsupported, Excluded, Covered, Eligible, Reached, Live, StandingIs, EffectiveIs, ConveyedIs, Lists, MembersAre}
 
+-- ## D3 through the root
+-- `Stands` with D3 as it reads without "u differs from r". It is no mistake of the oracle's, and changes no answer either.
+pub data StandsThrough (W : Shape) (E : W .Del → Type 0) (N : W .Key → Type 0) (c : W .Del → ℕ) : W .Key → W .Key → ℕ → Type 0 where
+  T1 : {r : W .Key} → ¬ N r → StandsThrough W E N c r r Admin
+  T2 : {r : W .Key} {l : ℕ} (d : W .Del) → E d → W .subject d ≡ r → ¬ N (W .audience d)
+      → StandsThrough W E N c r (W .issuer d) l → StandsThrough W E N c r (W .audience d) (min l (c d))
+  T3 : {r u x : W .Key} {l m : ℕ} → StandsThrough W E N c r u l → StandsThrough W E N c u x m → StandsThrough W E N c r x (min l m)
+
+-- ## Readings of coverage
 pub record Reading (W : Shape) : Type 1 where
   pub Counts : W .Del → Type 0
   pub Joins : W .Del → Type 0
