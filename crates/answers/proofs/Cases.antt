@@ -133,6 +133,24 @@ module _ {t : Bytes} {n : ℕ} {s x : Bytes} {i j : KeyPlace} (P : Bytes → Byt
       let q : P s (runAt t (j .0)) o = subst (λ y. P y (runAt t (j .0)) o) (a .subject-is) p in
       says.answered (a .subject-long) (a .audience-long) (subst (λ y. P s y o) (a .audience-is) q) l
 
+-- ## From one question about two keys to another: an answer that holds of both
+same-why″ : {v w : Refusal} → powered.Refused v ≡ powered.Refused w → v ≡ w
+same-why″ e = cc
+
+module _ {P Q : Option ℕ → Type 0} {s x : Bytes} where
+  -- a refusal is about lengths alone
+  pub refused-too : {r : Powered} {why : Refusal} → PowerAnswer P s x r → r ≡ powered.Refused why → PowerAnswer Q s x (powered.Refused why)
+  refused-too (says.subject-length h) e = subst (λ w. PowerAnswer Q s x (powered.Refused w)) (same-why″ e) (says.subject-length h)
+  refused-too (says.audience-length h k) e = subst (λ w. PowerAnswer Q s x (powered.Refused w)) (same-why″ e) (says.audience-length h k)
+  refused-too (says.answered h k p (says.level l)) e = let z : _≡_ {A = ℕ} 0 1 = cc in absurd (omega arith)
+  refused-too (says.answered h k p says.no-level) e = let z : _≡_ {A = ℕ} 0 1 = cc in absurd (omega arith)
+
+  pub nothing-too : {r : Powered} → (P none → Q none) → PowerAnswer P s x r → r ≡ powered.Nothing → PowerAnswer Q s x powered.Nothing
+  nothing-too f (says.subject-length h) e = let z : _≡_ {A = ℕ} 0 1 = cc in absurd (omega arith)
+  nothing-too f (says.audience-length h k) e = let z : _≡_ {A = ℕ} 0 1 = cc in absurd (omega arith)
+  nothing-too f (says.answered h k p (says.level l)) e = let z : _≡_ {A = ℕ} 0 1 = cc in absurd (omega arith)
+  nothing-too f (says.answered h k p says.no-level) e = says.answered h k (f p) says.no-level
+
 -- ## A delegation
 pub record AtDelegation (t : Bytes) (n : ℕ) (x : Bytes) (d : DelegationPlace) : Type 0 where
   pub long : length x ≡ digestLength

@@ -7,7 +7,8 @@ use mathlib.Core.Logic.{_⊎_, inl, inr}
 use mathlib.Core.List.{List, [], _∷_, List·Memᴰ, List·Memᴰ·cases-cons, List·Memᴰ·not-nil}
 use mathlib.Core.Option.{Option, none, some}
 use native.Mathlib.Omega.{arith}
-use Rattle.rules.specs.Rules.{Admin, PositiveIs, EffectiveIs, Caps}
+use Rattle.rules.specs.Rules.{Answer, absent, Admin, PositiveIs, EffectiveIs, Caps}
+use Rattle.rules.proofs.Derivations.Monotone.{reach}
 use Rattle.rules.proofs.Derivations.Rows.{self-answer, no-subject, no-audience}
 use Rattle.rules.proofs.Evaluation.LiveSet.{live-held}
 use Rattle.rules.proofs.Stores.Places.{positive-bytes, effective-bytes, caps-bytes, pull, into, outof, seek-place}
@@ -62,6 +63,10 @@ audience-key d k e = second (eqBytes (d .issuer) k) (rw (← e) (eq-refl (d .aud
 pub positive-self : (c : Committed) (k : Bytes) → PositiveIs (graph c) k k (some Admin)
 positive-self c k = self-answer (λ z. z)
 
+-- what the absent answer says
+from-absent : {P : ℕ → Type 0} → Answer P none → (l : ℕ) → ¬ P l
+from-absent (absent a) = a
+
 module _ (s : Store) (g : GoodStore s) where
   -- a key that is not held is no held delegation's
   pub not-subject : (k : Bytes) → has (runs (s .keys .table) (s .keys .count)) k ≡ false → (d : Delegation) → List·Memᴰ d (committed s .delegations) → ¬ (d .subject ≡ k)
@@ -104,3 +109,13 @@ module _ (s : Store) (g : GoodStore s) where
 
       pub effective-no-audience : (k x : Bytes) → ¬ (x ≡ k) → has (runs (s .keys .table) (s .keys .count)) x ≡ false → EffectiveIs (graph (committed s)) k x none
       effective-no-audience k x ne n = record { κ = bytes-caps; caps = caps-bytes (table s g e f) caps; answer = no-audience ne (λ d v. not-audience x n d (live-held v)) }
+
+      -- where nothing is held positively, nothing is held effectively
+      pub effective-none : {k x : Bytes} → PositiveIs (graph (committed s)) k x none → EffectiveIs (graph (committed s)) k x none
+      effective-none p =
+          record {
+            κ = bytes-caps;
+            caps = caps-bytes (table s g e f) caps;
+            -- every live delegation is held, and whether a key stands at all does not depend on the caps
+            answer = absent (λ l h. let a = reach (λ d v. live-held v) (λ n z. z) h in from-absent p (a .level) (a .holds));
+          }

@@ -22,6 +22,8 @@ pub struct Evaluation {
     subjects: u64,
     // who stands positively over a subject, and at which level
     found: Levels,
+    // who stands positively over a subject at all
+    reach: [u64; KEY_LIMIT],
     // N(d) where d is covered, else 0
     excluded: [u64; DELEGATION_LIMIT],
     // of the live ones, else 0
@@ -51,6 +53,7 @@ pub fn evaluate(facts: Facts) -> Evaluation
         &edges.earlier,
         &mut found,
     );
+    let reach = search::levels::reach(&found);
     let revokers = coverage::revokers(&facts.revoker, &facts.target, m, n);
     let excluded = coverage::coverage(&facts.subject, n, subjects, &revokers, &found);
     let contexts = coverage::contexts::contexts(&facts.target, m, n, &excluded);
@@ -60,6 +63,7 @@ pub fn evaluate(facts: Facts) -> Evaluation
         facts,
         subjects,
         found,
+        reach,
         excluded,
         grades,
     }

@@ -2,7 +2,6 @@
 
 use crate::Evaluation;
 use places::KeyPlace;
-use places::RELAY;
 ghost use Prim.Native.Nat.{_<_};
 ghost use Rattle.places.specs.Limits.{keyLimit};
 ghost use Rattle.rules.specs.Rules.{Node};
@@ -16,8 +15,8 @@ pub fn nodes(v: Evaluation, subject: KeyPlace) -> u64
 {
     let s = subject.0;
     if keyset::has(v.subjects, s) {
-        let found = v.found;
-        return search::levels::holders(&found, subject, RELAY);
+        let reach = v.reach;
+        return reach[s];
     }
     keyset::only(s)
 }

@@ -1,6 +1,6 @@
-// A key's power over a subject, positive or effective, and what a delegation conveys: put to a store and its evaluation. Each question finds the
-// places of the bytes that it is asked about, and answers what the evaluation says of those places. It lends copies of the columns that
-// it looks at: of a value whose own part is lent the whole is copied.
+// A key's power over a subject, positive or effective, and what a delegation conveys: put to a store and its evaluation. The places of two keys are
+// found here, that of a delegation comes with the question; the answer is what the evaluation says of those places. Copies of columns are
+// lent: of a value whose own part is lent the whole is copied.
 use answers::answer;
 use answers::answer::Powered;
 use answers::sought;
@@ -10,6 +10,7 @@ use evaluation::Evaluation;
 use power_levels::power::Power;
 use store::Store;
 ghost use Rattle.answers.specs.Answers.{PositivePower, EffectivePower, ConveyedPower};
+ghost use Rattle.answers.specs.Sought.{DelegationOf};
 ghost use Rattle.store.specs.Store.{committed};
 ghost use Rattle.powers.specs.EvaluationOf.{EvaluationOf};
 
@@ -62,13 +63,15 @@ pub fn effective_power(
 }
 
 // What the delegation conveys.
-pub fn conveyed_power(store: Store, evaluation: Evaluation, digest: &[u8]) -> Powered
-    requires { ⌜ EvaluationOf store evaluation ⌝ }
+pub fn conveyed_power(
+    store: Store,
+    evaluation: Evaluation,
+    asked: SoughtDelegation,
+    digest: &[u8],
+) -> Powered
+    requires { ⌜ EvaluationOf store evaluation × DelegationOf (store .delegations .digests) (store .delegations .count) (now digest) asked ⌝ }
     ensures { λ r. ⌜ ConveyedPower (committed store) (now (digest .entry)) r ⌝ }
 {
-    let n = store.delegations.count;
-    let digests = store.delegations.digests;
-    let asked = sought::seek_delegation(&digests, n, digest);
     match asked {
         SoughtDelegation::Refused(why) => Powered::Refused(why),
         SoughtDelegation::Unheld => Powered::Nothing,

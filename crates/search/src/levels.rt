@@ -4,6 +4,7 @@ use crate::Levels;
 use places::KEY_LIMIT;
 use places::KeyPlace;
 use places::LEVEL_COUNT;
+use places::RELAY;
 ghost use mathlib.Core.Path.{_≡_};
 ghost use Prim.Native.Nat.{ℕ, _<_};
 ghost use lib.ListN.{getD};
@@ -28,6 +29,19 @@ pub fn reached(levels: &Levels, root: KeyPlace, key: KeyPlace) -> bool
 {
     let r = root.0;
     keyset::has(levels[r * LEVEL_COUNT], key.0)
+}
+
+// Who stands over each root at all: a word for each root.
+pub fn reach(levels: &Levels) -> [u64; KEY_LIMIT]
+    ensures { λ words. ⌜ ((r : ℕ) → r < keyLimit → getD words r 0 ≡ word (now (levels .entry)) r 0) ⌝ }
+{
+    let mut words = [0u64; KEY_LIMIT];
+    let mut r = 0;
+    while r < KEY_LIMIT {
+        words[r] = holders(levels, KeyPlace(r), RELAY);
+        r += 1;
+    }
+    words
 }
 
 // The key's byte in the root's row.

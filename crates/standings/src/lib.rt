@@ -1,23 +1,25 @@
-// How a delegation stands, put to a store and its evaluation as powers does: live, revoked or unsupported, and whether it is live.
+// How a delegation stands whose place was sought, put to a store and its evaluation: live, revoked or unsupported, and whether it is live.
 use answers::answer::Liveness;
 use answers::answer::Stood;
-use answers::sought;
 use answers::sought::SoughtDelegation;
 use evaluation::Evaluation;
 use evaluation::standing::Standing;
 use store::Store;
 ghost use Rattle.answers.specs.Answers.{IsLive, StandingAnswer};
+ghost use Rattle.answers.specs.Sought.{DelegationOf};
 ghost use Rattle.store.specs.Store.{committed};
 ghost use Rattle.powers.specs.EvaluationOf.{EvaluationOf};
 
 // Live, revoked or unsupported.
-pub fn standing(store: Store, evaluation: Evaluation, digest: &[u8]) -> Stood
-    requires { ⌜ EvaluationOf store evaluation ⌝ }
+pub fn standing(
+    store: Store,
+    evaluation: Evaluation,
+    asked: SoughtDelegation,
+    digest: &[u8],
+) -> Stood
+    requires { ⌜ EvaluationOf store evaluation × DelegationOf (store .delegations .digests) (store .delegations .count) (now digest) asked ⌝ }
     ensures { λ r. ⌜ StandingAnswer (committed store) (now (digest .entry)) r ⌝ }
 {
-    let n = store.delegations.count;
-    let digests = store.delegations.digests;
-    let asked = sought::seek_delegation(&digests, n, digest);
     match asked {
         SoughtDelegation::Refused(why) => Stood::Refused(why),
         SoughtDelegation::Unheld => Stood::Absent,
@@ -33,13 +35,15 @@ pub fn standing(store: Store, evaluation: Evaluation, digest: &[u8]) -> Stood
 }
 
 // Whether the delegation is live.
-pub fn is_live(store: Store, evaluation: Evaluation, digest: &[u8]) -> Liveness
-    requires { ⌜ EvaluationOf store evaluation ⌝ }
+pub fn is_live(
+    store: Store,
+    evaluation: Evaluation,
+    asked: SoughtDelegation,
+    digest: &[u8],
+) -> Liveness
+    requires { ⌜ EvaluationOf store evaluation × DelegationOf (store .delegations .digests) (store .delegations .count) (now digest) asked ⌝ }
     ensures { λ r. ⌜ IsLive (committed store) (now (digest .entry)) r ⌝ }
 {
-    let n = store.delegations.count;
-    let digests = store.delegations.digests;
-    let asked = sought::seek_delegation(&digests, n, digest);
     match asked {
         SoughtDelegation::Refused(why) => Liveness::Refused(why),
         SoughtDelegation::Unheld => Liveness::Dead,

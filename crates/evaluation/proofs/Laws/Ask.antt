@@ -81,6 +81,11 @@ nodes-found {v} K {s} k {w} e = subst (λ (y : ℕ). Word y (Node (places (v .fa
   only = λ x b. let m = found-only (K .found) s x k 0 (omega arith) b in record { level = m .level; stands = m .holds };
 })
 
+-- whom a subject's lowest word does not have stands nowhere over it
+pub unreached : {v : Evaluation} (K : Evaluated v) {s x : ℕ} → bit (v .subjects) s ≡ 1 → bit (word (v .found) s 0) x ≡ 0 → PositiveIs (places (v .facts)) s x (levelOf 0)
+unfolding levelOf
+unreached K {s} {x} k z = absent (λ l p. let b = found-has (K .found) s x k 0 (record { level = l; more = omega arith; holds = p }) in omega arith)
+
 -- ---- effective
 
 module _ (e : Facts) (grades : List ℕ) (K : Capped e grades) where

@@ -44,41 +44,45 @@ positive c =
     let e = f .args .t1 in
     found-positive e (f .pre) (g .result) (g .ensures) (found-over e (g .result) 0 (found-less (c .before .before .before .before .before .before .before .before .before .before .before .before .before .before .before .before .before .before .subjects .result) (c .search .result) (c .search .ensures .1) (c .search .ensures .0)))
 
+reach-requires : tie.Need-reach-requires
+reach-requires c κs = search needs
+
 revokers-requires : tie.Need-revokers-requires
-revokers-requires c κs = let f = c .before .before .before .before .before .before .before .before .before .before .before .before .before .before .before .before .before .before .before .before .before .before .before .before in (f .pre .revocations-le, f .pre .delegations-le, f .pre .revoker-lt)
+revokers-requires c κs = let f = c .before .before .before .before .before .before .before .before .before .before .before .before .before .before .before .before .before .before .before .before .before .before .before .before .before .before in (f .pre .revocations-le, f .pre .delegations-le, f .pre .revoker-lt)
 
 coverage-requires : tie.Need-coverage-requires
-coverage-requires c κs = let f = c .before .before .before .before .before .before .before .before .before .before .before .before .before .before .before .before .before .before .before .before .before .before .before .before .before .before .before .before .before in (f .pre .delegations-le, f .pre .subject-lt)
+coverage-requires c κs = let f = c .before .before .before .before .before .before .before .before .before .before .before .before .before .before .before .before .before .before .before .before .before .before .before .before .before .before .before .before .before .before .before in (f .pre .delegations-le, f .pre .subject-lt)
 
 -- the words are N(d)
-nets : (c : tie.After-coverage) → Nets (c .before .before .before .before .before .before .before .before .before .before .before .before .before .before .before .before .before .before .before .before .before .before .before .before .before .before .before .before .before .before .args .t1) (c .coverage .result)
+nets : (c : tie.After-coverage) → Nets (c .before .before .before .before .before .before .before .before .before .before .before .before .before .before .before .before .before .before .before .before .before .before .before .before .before .before .before .before .before .before .before .before .args .t1) (c .coverage .result)
 nets c =
-    let s = c .before .before .before .before .before .before .before .before .before .before .before .before .before .before .before .before .before .before .before .before .before .before .before .before .before .before .before .subjects in
-    let p = c .before .before .before .before .before .before .before .before .before in
-    filled-map (λ d w h X. net-is (c .before .before .before .before .before .before .before .before .before .before .before .before .before .before .before .before .before .before .before .before .before .before .before .before .before .before .before .before .before .before .args .t1) (s .result) (found-list p) (s .ensures) (positive p) d h _ (c .before .before .before .before .before .revokers .ensures .is d h) w X) (c .coverage .ensures)
+    let s = c .before .before .before .before .before .before .before .before .before .before .before .before .before .before .before .before .before .before .before .before .before .before .before .before .before .before .before .before .before .subjects in
+    let p = c .before .before .before .before .before .before .before .before .before .before .before in
+    filled-map (λ d w h X. net-is (c .before .before .before .before .before .before .before .before .before .before .before .before .before .before .before .before .before .before .before .before .before .before .before .before .before .before .before .before .before .before .before .before .args .t1) (s .result) (found-list p) (s .ensures) (positive p) d h _ (c .before .before .before .before .before .revokers .ensures .is d h) w X) (c .coverage .ensures)
 
 contexts-requires : tie.Need-contexts-requires
-contexts-requires c κs = let f = c .before .before .before .before .before .before .before .before .before .before .before .before .before .before .before .before .before .before .before .before .before .before .before .before .before .before .before .before .before .before .before .before .before in (f .pre .revocations-le, f .pre .delegations-le)
+contexts-requires c κs = let f = c .before .before .before .before .before .before .before .before .before .before .before .before .before .before .before .before .before .before .before .before .before .before .before .before .before .before .before .before .before .before .before .before .before .before .before in (f .pre .revocations-le, f .pre .delegations-le)
 
 live-set-requires : tie.Need-live-set-requires
 live-set-requires c κs = (
-  (c .before .before .before .before .before .before .before .before .before .before .before .before .before .before .before .before .before .before .before .before .before .before .before .before .before .before .before .before .before .before .before .before .before .before .before .before .pre, c .before .before .before .before .before .before .before .before .before .before .before .before .before .before .before .before .before .before .before .before .before .before .before .before .before .before .before .before .before .before .before .before .before .subjects .ensures),
-  (c .before .before .before .before .before .before .before .before .before .before .before .before .before .before .before .before .before .before .before .before .before .before .before .before .before .before .before .before .before .index .ensures, ((c .before .before .before .before .before .before .before .before .before .before .before .revokers .ensures, nets (c .before .before .before .before .before .before)), c .before .before .contexts .ensures)),
+  (c .before .before .before .before .before .before .before .before .before .before .before .before .before .before .before .before .before .before .before .before .before .before .before .before .before .before .before .before .before .before .before .before .before .before .before .before .before .before .pre, c .before .before .before .before .before .before .before .before .before .before .before .before .before .before .before .before .before .before .before .before .before .before .before .before .before .before .before .before .before .before .before .before .before .before .before .subjects .ensures),
+  (c .before .before .before .before .before .before .before .before .before .before .before .before .before .before .before .before .before .before .before .before .before .before .before .before .before .before .before .before .before .before .before .index .ensures, ((c .before .before .before .before .before .before .before .before .before .before .before .revokers .ensures, nets (c .before .before .before .before .before .before)), c .before .before .contexts .ensures)),
 )
 
 caps-requires : tie.Need-caps-requires
 caps-requires c κs = (
-  (c .before .before .before .before .before .before .before .before .before .before .before .before .before .before .before .before .before .before .before .before .before .before .before .before .before .before .before .before .before .before .before .before .before .before .before .before .before .before .before .pre, c .before .before .before .before .before .before .before .before .before .before .before .before .before .before .before .before .before .before .before .before .before .before .before .before .before .before .before .before .before .before .before .before .before .before .before .before .subjects .ensures),
-  (c .before .before .before .before .before .before .before .before .before .before .before .before .before .before .before .before .before .before .before .before .before .before .before .before .before .before .before .before .before .before .before .before .index .ensures, ((nets (c .before .before .before .before .before .before .before .before .before), c .before .before .before .before .before .contexts .ensures), c .before .before .live-set .ensures)),
+  (c .before .before .before .before .before .before .before .before .before .before .before .before .before .before .before .before .before .before .before .before .before .before .before .before .before .before .before .before .before .before .before .before .before .before .before .before .before .before .before .before .before .pre, c .before .before .before .before .before .before .before .before .before .before .before .before .before .before .before .before .before .before .before .before .before .before .before .before .before .before .before .before .before .before .before .before .before .before .before .before .before .before .subjects .ensures),
+  (c .before .before .before .before .before .before .before .before .before .before .before .before .before .before .before .before .before .before .before .before .before .before .before .before .before .before .before .before .before .before .before .before .before .before .index .ensures, ((nets (c .before .before .before .before .before .before .before .before .before), c .before .before .before .before .before .contexts .ensures), c .before .before .live-set .ensures)),
 )
 
 returns : tie.Need-returns
 returns c = (
   refl,
   record {
-    fit = c .before .before .before .before .before .before .before .before .before .before .before .before .before .before .before .before .before .before .before .before .before .before .before .before .before .before .before .before .before .before .before .before .before .before .before .before .before .before .before .before .pre;
-    subjects = c .before .before .before .before .before .before .before .before .before .before .before .before .before .before .before .before .before .before .before .before .before .before .before .before .before .before .before .before .before .before .before .before .before .before .before .before .before .subjects .ensures;
-    found = positive (c .before .before .before .before .before .before .before .before .before .before .before .before .before .before .before .before .before .before .before);
+    fit = c .before .before .before .before .before .before .before .before .before .before .before .before .before .before .before .before .before .before .before .before .before .before .before .before .before .before .before .before .before .before .before .before .before .before .before .before .before .before .before .before .before .before .pre;
+    subjects = c .before .before .before .before .before .before .before .before .before .before .before .before .before .before .before .before .before .before .before .before .before .before .before .before .before .before .before .before .before .before .before .before .before .before .before .before .before .before .before .subjects .ensures;
+    found = positive (c .before .before .before .before .before .before .before .before .before .before .before .before .before .before .before .before .before .before .before .before .before);
+    reach = c .before .before .before .before .before .before .before .before .before .before .before .before .before .before .before .before .before .before .before .reach .ensures;
     excluded = nets (c .before .before .before .before .before .before .before .before .before .before);
     grades = c .caps .ensures;
   },
@@ -92,6 +96,7 @@ evaluate-spec =
     index-requires
     powers-requires
     search-requires
+    reach-requires
     revokers-requires
     coverage-requires
     contexts-requires

@@ -16,12 +16,6 @@ use Rattle.answers.proofs.Cases.{conveyed-small, delegation-at-place, delegatio
 use Rattle.powers.proofs.conveyed_power.Statement.{statement}
 use Rattle.powers.proofs.conveyed_power.Tie as tie
 
-slice-aggregate-seek-delegation : tie.Need-slice-aggregate-seek-delegation
-slice-aggregate-seek-delegation c = sym (c .before .before .before .pre .store .delegations .digests .long)
-
-seek-delegation-requires : tie.Need-seek-delegation-requires
-seek-delegation-requires c κs = c .before .before .before .pre .store .delegations .digests
-
 enum-known-asked : tie.Need-enum-known-asked
 enum-known-asked c = search needs
 
@@ -33,31 +27,31 @@ enum-known-asked-2 c = search needs
 
 conveyed-power-requires : tie.Need-conveyed-power-requires
 conveyed-power-requires c κs =
-    let g = c .before .before .before .before .before .before .before .pre in
-    let a = delegation-at-place (c .before .before .before .seek-delegation .ensures) (c .before .asked2 .given .1) in
+    let g = c .before .before .before .before .pre .0 in
+    let a = delegation-at-place (c .before .before .before .before .pre .1) (c .before .asked2 .given .1) in
     (g .evaluation, rw (g .facts .delegations) (a .within))
 
 level-of-requires : tie.Need-level-of-requires
-level-of-requires c κs = conveyed-small (places (c .before .before .before .before .before .before .before .before .args .evaluation .facts)) (c .conveyed-power .result) (c .conveyed-power .ensures)
+level-of-requires c κs = conveyed-small (places (c .before .before .before .before .before .args .evaluation .facts)) (c .conveyed-power .result) (c .conveyed-power .ensures)
 
 returns : tie.Need-returns
 returns c =
-    let s = c .before .before .before .before .before .before .before .args in
-    delegation-refused (λ w. ConveyedPower (committed (s .store)) (now (s .digest)) (powered.Refused w)) says.digest-length (c .before .before .before .seek-delegation .ensures) (c .before .asked .given .1)
+    let s = c .before .before .before .before .args in
+    delegation-refused (λ w. ConveyedPower (committed (s .store)) (now (s .digest)) (powered.Refused w)) says.digest-length (c .before .before .before .before .pre .1) (c .before .asked .given .1)
 
 returns-2 : tie.Need-returns-2
 returns-2 c =
-    let s = c .before .before .before .before .before .before .args in
-    let n = delegation-unheld (c .before .before .seek-delegation .ensures) (c .enum-told .given .1) in
-    says.absent (n .long) (not-held (s .store) (c .before .before .before .before .before .before .pre .store) (now (s .digest)) n)
+    let s = c .before .before .before .args in
+    let n = delegation-unheld (c .before .before .before .pre .1) (c .enum-told .given .1) in
+    says.absent (n .long) (not-held (s .store) (c .before .before .before .pre .0 .store) (now (s .digest)) n)
 
 returns-3 : tie.Need-returns-3
 returns-3 c =
-    let s = c .before .before .before .before .before .before .before .before .before .args in
-    let g = c .before .before .before .before .before .before .before .before .before .pre in
+    let s = c .before .before .before .before .before .before .args in
+    let g = c .before .before .before .before .before .before .pre .0 in
     let st = s .store in
     let x = now (s .digest) in
-    let a = delegation-at-place (c .before .before .before .before .before .seek-delegation .ensures) (c .before .before .before .asked2 .given .1) in
+    let a = delegation-at-place (c .before .before .before .before .before .before .pre .1) (c .before .before .before .asked2 .given .1) in
     let d = c .before .before .before .asked2 .given .0 .0 in
     says.answered (a .long) (is-held st (g .store) x d a)
     (subst (λ y. ConveyedIs (graph (committed st)) y (levelOf (c .before .conveyed-power .result))) (sym (with-is st (g .store) x d a))
@@ -68,8 +62,6 @@ pub conveyed-power-spec : {M : Type 1} → statement M
 conveyed-power-spec =
     tie.close
     (tie.spec
-    slice-aggregate-seek-delegation
-    seek-delegation-requires
     enum-known-asked
     enum-told
     enum-known-asked-2

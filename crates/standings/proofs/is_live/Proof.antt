@@ -1,5 +1,4 @@
 -- `is_live` meets its contract: what was sought settles the case, and what holds of the delegation at its place holds of its bytes.
-use mathlib.Core.Path.{sym}
 use borrow.Author.Needs.{needs}
 use denote.Ref.{now}
 use Rattle.store.specs.Store.{committed}
@@ -12,12 +11,6 @@ use Rattle.answers.proofs.Cases.{lives, dies-revoked, dies-unsupported, delegat
 use Rattle.standings.proofs.is_live.Statement.{statement}
 use Rattle.standings.proofs.is_live.Tie as tie
 
-slice-aggregate-seek-delegation : tie.Need-slice-aggregate-seek-delegation
-slice-aggregate-seek-delegation c = sym (c .before .before .before .pre .store .delegations .digests .long)
-
-seek-delegation-requires : tie.Need-seek-delegation-requires
-seek-delegation-requires c κs = c .before .before .before .pre .store .delegations .digests
-
 enum-known-asked : tie.Need-enum-known-asked
 enum-known-asked c = search needs
 
@@ -29,8 +22,8 @@ enum-known-asked-2 c = search needs
 
 standing-of-requires : tie.Need-standing-of-requires
 standing-of-requires c κs =
-    let g = c .before .before .before .before .before .before .before .pre in
-    let a = delegation-at-place (c .before .before .before .seek-delegation .ensures) (c .before .asked2 .given .1) in
+    let g = c .before .before .before .before .pre .0 in
+    let a = delegation-at-place (c .before .before .before .before .pre .1) (c .before .asked2 .given .1) in
     (g .evaluation, rw (g .facts .delegations) (a .within))
 
 enum-told-2 : tie.Need-enum-told-2
@@ -44,44 +37,44 @@ enum-told-4 c = search needs
 
 returns : tie.Need-returns
 returns c =
-    let s = c .before .before .before .before .before .before .before .args in
-    delegation-refused (λ w. IsLive (committed (s .store)) (now (s .digest)) (liveness.Refused w)) says.digest-length (c .before .before .before .seek-delegation .ensures) (c .before .asked .given .1)
+    let s = c .before .before .before .before .args in
+    delegation-refused (λ w. IsLive (committed (s .store)) (now (s .digest)) (liveness.Refused w)) says.digest-length (c .before .before .before .before .pre .1) (c .before .asked .given .1)
 
 returns-2 : tie.Need-returns-2
 returns-2 c =
-    let s = c .before .before .before .before .before .before .args in
-    let n = delegation-unheld (c .before .before .seek-delegation .ensures) (c .enum-told .given .1) in
-    says.absent (n .long) (not-held (s .store) (c .before .before .before .before .before .before .pre .store) (now (s .digest)) n)
+    let s = c .before .before .before .args in
+    let n = delegation-unheld (c .before .before .before .pre .1) (c .enum-told .given .1) in
+    says.absent (n .long) (not-held (s .store) (c .before .before .before .pre .0 .store) (now (s .digest)) n)
 
 returns-3 : tie.Need-returns-3
 returns-3 c =
-    let s = c .before .before .before .before .before .before .before .before .before .before .args in
-    let g = c .before .before .before .before .before .before .before .before .before .before .pre in
+    let s = c .before .before .before .before .before .before .before .args in
+    let g = c .before .before .before .before .before .before .before .pre .0 in
     let st = s .store in
     let x = now (s .digest) in
-    let a = delegation-at-place (c .before .before .before .before .before .before .seek-delegation .ensures) (c .before .before .before .before .asked2 .given .1) in
+    let a = delegation-at-place (c .before .before .before .before .before .before .before .pre .1) (c .before .before .before .before .asked2 .given .1) in
     let d = c .before .before .before .before .asked2 .given .0 .0 in
     let t = standing-bytes (table st (g .store) (s .evaluation .facts) (g .facts)) (rw (g .facts .delegations) (a .within)) (rw (c .enum-told2 .given .1) at (c .before .before .standing-of .ensures)) in
     says.live (a .long) (is-held st (g .store) x d a) (rw (with-is st (g .store) x d a) (lives t))
 
 returns-4 : tie.Need-returns-4
 returns-4 c =
-    let s = c .before .before .before .before .before .before .before .before .before .before .args in
-    let g = c .before .before .before .before .before .before .before .before .before .before .pre in
+    let s = c .before .before .before .before .before .before .before .args in
+    let g = c .before .before .before .before .before .before .before .pre .0 in
     let st = s .store in
     let x = now (s .digest) in
-    let a = delegation-at-place (c .before .before .before .before .before .before .seek-delegation .ensures) (c .before .before .before .before .asked2 .given .1) in
+    let a = delegation-at-place (c .before .before .before .before .before .before .before .pre .1) (c .before .before .before .before .asked2 .given .1) in
     let d = c .before .before .before .before .asked2 .given .0 .0 in
     let t = standing-bytes (table st (g .store) (s .evaluation .facts) (g .facts)) (rw (g .facts .delegations) (a .within)) (rw (c .enum-told3 .given .1) at (c .before .before .standing-of .ensures)) in
     says.dead (a .long) (is-held st (g .store) x d a) (rw (with-is st (g .store) x d a) (dies-revoked t))
 
 returns-5 : tie.Need-returns-5
 returns-5 c =
-    let s = c .before .before .before .before .before .before .before .before .before .before .args in
-    let g = c .before .before .before .before .before .before .before .before .before .before .pre in
+    let s = c .before .before .before .before .before .before .before .args in
+    let g = c .before .before .before .before .before .before .before .pre .0 in
     let st = s .store in
     let x = now (s .digest) in
-    let a = delegation-at-place (c .before .before .before .before .before .before .seek-delegation .ensures) (c .before .before .before .before .asked2 .given .1) in
+    let a = delegation-at-place (c .before .before .before .before .before .before .before .pre .1) (c .before .before .before .before .asked2 .given .1) in
     let d = c .before .before .before .before .asked2 .given .0 .0 in
     let t = standing-bytes (table st (g .store) (s .evaluation .facts) (g .facts)) (rw (g .facts .delegations) (a .within)) (rw (c .enum-told4 .given .1) at (c .before .before .standing-of .ensures)) in
     says.dead (a .long) (is-held st (g .store) x d a) (rw (with-is st (g .store) x d a) (dies-unsupported t))
@@ -90,8 +83,6 @@ pub is-live-spec : {M : Type 1} → statement M
 is-live-spec =
     tie.close
     (tie.spec
-    slice-aggregate-seek-delegation
-    seek-delegation-requires
     enum-known-asked
     enum-told
     enum-known-asked-2

@@ -8,13 +8,17 @@ use Rattle.evaluation.proofs.nodes.nodes.Tie as tie
 has-requires : tie.Need-has-requires
 has-requires c κs = search needs
 
-holders-requires : tie.Need-holders-requires
-holders-requires c κs = search needs
+mul-result : tie.Need-mul-result
+mul-result c = search needs
+
+array-read-result : tie.Need-array-read-result
+array-read-result c = search needs
 
 returns : tie.Need-returns
 returns c =
-    let f = c .before .before .before .before .before in
-    nodes-found (f .pre .0) (is-in (f .args .v .subjects) (f .args .subject .0) (c .before .before .before .before .has .result) (c .before .before .before .before .has .ensures) (c .before .before .before .if1 .taken)) (c .holders .ensures)
+    let f = c .before .before .before in
+    let k = is-in (f .args .v .subjects) (f .args .subject .0) (c .before .before .has .result) (c .before .before .has .ensures) (c .before .if1 .taken) in
+    nodes-found (f .pre .0) k (f .pre .0 .reach (f .args .subject .0) (f .pre .1))
 
 only-requires : tie.Need-only-requires
 only-requires c κs = search needs
@@ -25,4 +29,4 @@ returns-2 c =
     node-itself (f .pre .0) (not-in (f .args .v .subjects) (f .args .subject .0) (c .before .before .has .result) (c .before .before .has .ensures) (c .before .if1 .left)) (c .only .ensures .0) (c .only .ensures .1)
 
 pub nodes-spec : {M : Type 1} → statement M
-nodes-spec = tie.close (tie.spec has-requires holders-requires returns only-requires returns-2)
+nodes-spec = tie.close (tie.spec has-requires mul-result array-read-result returns only-requires returns-2)

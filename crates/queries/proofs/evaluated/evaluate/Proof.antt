@@ -16,15 +16,21 @@ facts-requires c κs = search needs
 evaluate-requires : tie.Need-evaluate-requires
 evaluate-requires c κs = c .facts .ensures .0
 
+hints-of-requires : tie.Need-hints-of-requires
+hints-of-requires c κs = search needs
+
+hints-of-requires-2 : tie.Need-hints-of-requires-2
+hints-of-requires-2 c κs = search needs
+
 returns : tie.Need-returns
 returns c = (
   record {
-    store = c .before .before .pre;
-    facts = facts-kept (c .evaluate .ensures .0) (c .before .facts .ensures .1);
-    evaluation = c .evaluate .ensures .1;
+    store = c .before .before .before .before .pre;
+    facts = facts-kept (c .before .before .evaluate .ensures .0) (c .before .before .before .facts .ensures .1);
+    evaluation = c .before .before .evaluate .ensures .1;
   },
   refl,
 )
 
 pub evaluate-spec : {M : Type 1} → statement M
-evaluate-spec = tie.close (tie.spec facts-requires evaluate-requires returns)
+evaluate-spec = tie.close (tie.spec facts-requires evaluate-requires hints-of-requires hints-of-requires-2 returns)
