@@ -6,7 +6,7 @@ use Rattle.queries.proofs.evaluated.Evaluated.effective_power.Statement
 use Rattle.queries.proofs.evaluated.Evaluated.effective_power.Tie as tie
 
 positive-power-requires : tie.Need-positive-power-requires
-positive-power-requires c κs = search needs
+positive-power-requires c κs = c .before .before .pre
 
 enum-known-why : tie.Need-enum-known-why
 enum-known-why c = search needs
@@ -18,7 +18,7 @@ enum-told-2 : tie.Need-enum-told-2
 enum-told-2 c = search needs
 
 effective-power-requires : tie.Need-effective-power-requires
-effective-power-requires c κs = search needs
+effective-power-requires c κs = c .before .before .before .before .before .pre
 
 returns : tie.Need-returns
 returns c = refused-too (c .before .before .before .positive-power .ensures) (c .before .why .given .1)
@@ -30,7 +30,7 @@ returns-2 c =
     nothing-too (effective-none (s .args .self .store) (g .store) (s .args .self .evaluation .facts) (g .facts) (g .evaluation .grades .caps)) (c .before .before .positive-power .ensures) (c .enum-told .given .1)
 
 returns-3 : tie.Need-returns-3
-returns-3 c = search needs
+returns-3 c = c .effective-power .ensures
 
 pub effective-power-spec : {M : Type 1} → statement M
 effective-power-spec =
