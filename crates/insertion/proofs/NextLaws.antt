@@ -13,7 +13,7 @@ use Rattle.power_levels.proofs.Levels.{rank-below}
 use Rattle.runs.specs.Bytes.{Bytes, runLength, runAt}
 use Rattle.runs.specs.Members.{has, fresh}
 use Rattle.runs.specs.Table.{tabulate, runs, Pushed}
-use Rattle.runs.proofs.BoolLaws.{or}
+use Rattle.runs.proofs.BoolLaws.{or, or-assoc}
 use Rattle.runs.proofs.MemberLaws.{has-append}
 use Rattle.runs.proofs.FreshLaws.{fresh-has}
 use Rattle.runs.proofs.PartLaws.{tabulate-long, tabulate-snoc, tabulate-same}
@@ -79,10 +79,6 @@ swap false true false = refl
 swap false false true = refl
 swap false false false = refl
 
-assoc : (a b c : Bool) → or (or a b) c ≡ or a (or b c)
-assoc true b c = refl
-assoc false b c = refl
-
 keys-with-delegation : (c : Committed) (g : Delegation) (k : Bytes) → has (keysIn (withDelegation c g)) k ≡ or (has (keysIn c) k) (has (delegationKeys g) k)
 unfolding keysIn
 keys-with-delegation c g k =
@@ -95,7 +91,7 @@ unfolding keysIn
 keys-with-revocation c v k =
     let a = keysOf delegationKeys (c .delegations) in
     let r = keysOf revocationKeys (c .revocations) in
-    rw (keys-snoc revocationKeys (c .revocations) v, has-append a (r ++ revocationKeys v) k, has-append r (revocationKeys v) k, has-append a r k) (sym (assoc (has a k) (has r k) (has (revocationKeys v) k)))
+    rw (keys-snoc revocationKeys (c .revocations) v, has-append a (r ++ revocationKeys v) k, has-append r (revocationKeys v) k, has-append a r k) (sym (or-assoc (has a k) (has r k) (has (revocationKeys v) k)))
 
 -- ---- one row more
 -- a column of places of keys has the place of k at n

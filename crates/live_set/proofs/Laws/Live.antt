@@ -52,6 +52,9 @@ module _ (target : List ℕ) (n : ℕ) (issuer audience subject revokers exclude
 
 -- ---- who is open
 
+pub out : (w k : ℕ) → (bit w k ≡ 1 → ⊥) → bit w k ≡ 0
+out w k n = ⊎-elim (λ z. z) (λ z. absurd (n z)) (bit-two w k)
+
 module _ (e : Facts) (excluded : List ℕ) (NN : Nets e excluded) where
   -- the delegation that j names is eligible
   abbrev pub Opens : List ℕ → ℕ → Type 0
@@ -69,9 +72,6 @@ module _ (e : Facts) (excluded : List ℕ) (NN : Nets e excluded) where
           subject = λ x. let b = w .has _ x in let z = f .subject-out in omega arith;
           audience = λ x. let b = R .is d (o .held) .has _ x in let z = f .audience-out in omega arith;
         }
-
-    out : (w k : ℕ) → (bit w k ≡ 1 → ⊥) → bit w k ≡ 0
-    out w k n = ⊎-elim (λ z. z) (λ z. absurd (n z)) (bit-two w k)
 
     fair-at : (d : ℕ) → Eligible (places e) d → (j : ℕ) → getD (e .target) j 0 ≡ d → Opens revokers j
     fair-at d el j p =

@@ -1,18 +1,13 @@
 -- `live_set::eligible` meets its contract: three tests, each of which rules the delegation out.
-use Prim.Native.Nat.{ℕ}
-use mathlib.Core.Path.{_≡_, refl}
+use mathlib.Core.Path.{refl}
 use mathlib.Core.Logic.{inl, inr, ⊎-elim}
 use native.Mathlib.Omega.{arith}
 use borrow.Author.Tests.{not-true, not-false}
-use Rattle.keyset.specs.Word.{bit}
-use Rattle.keyset.proofs.Laws.{bit-two}
 use Rattle.coverage.proofs.Laws.Flags.{clash}
+use Rattle.live_set.proofs.Laws.Live.{out}
 use borrow.Author.Needs.{needs}
 use Rattle.live_set.proofs.eligible.Statement.{statement}
 use Rattle.live_set.proofs.eligible.Tie as tie
-
-out : (w k : ℕ) → (bit w k ≡ 1 → ⊥) → bit w k ≡ 0
-out w k n = ⊎-elim (λ z. z) (λ z. absurd (n z)) (bit-two w k)
 
 returns : tie.Need-returns
 returns c = record { yes = λ e. absurd (clash e refl); no = λ e f. omega (arith, f .covered, c .if1 .taken) }
