@@ -7,7 +7,8 @@ use mathlib.Core.Logic.{_⊎_, inl, inr}
 use mathlib.Core.List.{List, [], _∷_, List·Memᴰ, List·Memᴰ·cases-cons, List·Memᴰ·not-nil}
 use mathlib.Core.Option.{Option, none, some}
 use native.Mathlib.Omega.{arith}
-use Rattle.rules.specs.Rules.{Answer, absent, Admin, PositiveIs, EffectiveIs, Caps}
+use Rattle.rules.specs.Rules.{absent, Admin, PositiveIs, EffectiveIs, Caps}
+use Rattle.rules.specs.Rows.{levelOf}
 use Rattle.rules.proofs.Derivations.Monotone.{reach}
 use Rattle.rules.proofs.Derivations.Rows.{self-answer, no-subject, no-audience}
 use Rattle.rules.proofs.Evaluation.LiveSet.{live-held}
@@ -23,6 +24,7 @@ use Rattle.store.specs.Store.{committed, GoodStore}
 use Rattle.store.specs.declared.Store.{Store}
 use Rattle.coverage.specs.Places.{places}
 use Rattle.coverage.specs.declared.Facts.{Facts}
+use Rattle.coverage.proofs.Laws.Seek.{answer-most}
 use Rattle.answers.specs.Graph.{graph}
 use Rattle.answers.specs.Facts.{FactsOf}
 use Rattle.answers.proofs.Places.{table}
@@ -62,10 +64,6 @@ audience-key d k e = second (eqBytes (d .issuer) k) (rw (← e) (eq-refl (d .aud
 -- a key over itself
 pub positive-self : (c : Committed) (k : Bytes) → PositiveIs (graph c) k k (some Admin)
 positive-self c k = self-answer (λ z. z)
-
--- what the absent answer says
-from-absent : {P : ℕ → Type 0} → Answer P none → (l : ℕ) → ¬ P l
-from-absent (absent a) = a
 
 module _ (s : Store) (g : GoodStore s) where
   -- a key that is not held is no held delegation's
@@ -112,10 +110,11 @@ module _ (s : Store) (g : GoodStore s) where
 
       -- where nothing is held positively, nothing is held effectively
       pub effective-none : {k x : Bytes} → PositiveIs (graph (committed s)) k x none → EffectiveIs (graph (committed s)) k x none
+      unfolding levelOf
       effective-none p =
           record {
             κ = bytes-caps;
             caps = caps-bytes (table s g e f) caps;
             -- every live delegation is held, and whether a key stands at all does not depend on the caps
-            answer = absent (λ l h. let a = reach (λ d v. live-held v) (λ n z. z) h in from-absent p (a .level) (a .holds));
+            answer = absent (λ l h. let a = reach (λ d v. live-held v) (λ n z. z) h in let m = answer-most 0 p (a .level) (a .holds) in omega arith);
           }

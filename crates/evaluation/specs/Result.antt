@@ -20,7 +20,7 @@ pub record Evaluated (v : Evaluation) : Type 0 where
   pub subjects : Word (v .subjects) (Subject (v .facts))
   -- positive power over them
   pub found : Found (Positive (places (v .facts))) (v .subjects) (v .found)
-  -- who stands positively over each key at all: the first of its words
+  -- the first of each key's words there: who stands over a subject at all
   pub reach : (r : ℕ) → r < keyLimit → getD (v .reach) r 0 ≡ word (v .found) r 0
   -- N(d) of the covered delegations, and 0 for the others
   pub excluded : Nets (v .facts) (v .excluded)

@@ -57,7 +57,8 @@ pub fn hints_of(store: Store, way: usize) -> Hints
     Hints { keys, delegations }
 }
 
-// Whether the run at place i is the one given. Every byte is compared: what is looked for is most often there.
+// Whether the run at place i is the one given. runs::bytes::same_at says the same and stops at the first other byte; a hint is most often right,
+// and then all bytes are compared at once.
 fn same(table: &[u8], i: usize, run: &[u8]) -> bool
     requires { ⌜ (runLength * i + runLength ≤ length (now table)) × (length (now run) ≡ runLength) ⌝ }
     ensures { λ r. ⌜ r ≡ eqBytes (runAt (now (table .entry)) i) (now (run .entry)) ⌝ }

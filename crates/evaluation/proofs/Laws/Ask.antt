@@ -3,7 +3,7 @@ use Prim.Native.Nat.{ℕ, zero, suc, pred, _+_, _≤_, _<_, min}
 use mathlib.Core.Path.{_≡_, refl, sym, ap, _∙_, subst}
 use mathlib.Core.List.{List}
 use mathlib.Core.Logic.{inl, inr}
-use mathlib.Core.Option.{Option, none, some}
+use mathlib.Core.Option.{Option, some}
 use native.Mathlib.Omega.{arith}
 use native.Mathlib.Decide.{ℕ-discrete}
 use lib.ListN.{getD}
@@ -119,9 +119,6 @@ module _ (e : Facts) (grades : List ℕ) (K : Capped e grades) where
   plain-live n (inl u) = u
   plain-live n (inr v) = absurd (n v)
 
-  from-absent : {P : ℕ → Type 0} → Answer P none → (l : ℕ) → P l → ⊥
-  from-absent (absent a) = a
-
   min-suc : (p l : ℕ) → min (p + 1) (suc l) ≡ suc (min p l)
   min-suc p l = omega arith
 
@@ -142,7 +139,7 @@ module _ (e : Facts) (grades : List ℕ) (K : Capped e grades) where
     unfolding levelOf
     conveyed-plain n zero q =
         let u = plain-live n (K .lives .yes d pos) in
-        absurd (let a = effective-exists (q .κ) (inl u) in from-absent (q .answer) (a .level) (a .holds))
+        absurd (let a = effective-exists (q .κ) (inl u) in let m = answer-most 0 (q .answer) (a .level) (a .holds) in omega arith)
     conveyed-plain n (suc l) q =
         let u = plain-live n (K .lives .yes d pos) in
         record {

@@ -1,14 +1,13 @@
 -- `search::levels::reach` meets its contract. The loop's invariant: the words below r are the roots' lowest ones.
-use borrow.Author.Needs.{needs, read-below}
-use borrow.Author.Count.{below-more}
+use borrow.Author.Needs.{needs}
 use Prim.Native.Nat.{ℕ, _≤_, _<_, _-_}
 use mathlib.Core.Path.{_≡_, refl, _∙_}
 use native.Mathlib.Omega.{arith}
 use denote.Ref.{now}
-use lib.ListN.{getD, set, length, length-set}
-use lib.Seq.{getD-set-same}
+use lib.ListN.{getD, length, length-set}
 use Rattle.places.specs.Limits.{keyLimit}
 use Rattle.search.specs.Levels.{word}
+use Rattle.search.proofs.Laws.Fill.{filled-more}
 use Rattle.search.proofs.levels.reach.Statement.{statement}
 use Rattle.search.proofs.levels.reach.Tie as tie
 
@@ -40,13 +39,7 @@ loop-again : tie.Need-loop-again Inv-loop μ-loop
 loop-again c =
     let l = c .before .before .loop in
     let levels = now (c .before .before .before .args .levels) in
-    let v = c .holders .result in (
-      search needs,
-      length-set (l .words) (l .r) v ∙ l .inv .1,
-      below-more (λ k. getD (set (l .words) (l .r) v) k 0 ≡ word levels k 0) (l .r)
-          (λ k p. read-below ℕ (l .words) (l .r) k v 0 (word levels k 0) p (l .inv .2 k p))
-          (getD-set-same (l .words) (l .r) v 0 (omega arith) ∙ c .holders .ensures),
-    )
+    (search needs, length-set (l .words) (l .r) (c .holders .result) ∙ l .inv .1, filled-more (λ k. word levels k 0) (l .words) (l .r) (c .holders .result) (omega arith) (c .holders .ensures) (l .inv .2))
 
 returns : tie.Need-returns Inv-loop μ-loop
 returns c = λ k p. c .before .loop .inv .2 k (omega arith)

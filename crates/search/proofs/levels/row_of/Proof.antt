@@ -1,15 +1,13 @@
 -- `search::levels::row_of` meets its contract. The loop's invariant: the bytes below x are the keys' heights.
 use borrow.Author.Needs.{needs}
-use Prim.Native.Nat.{ℕ, _≤_, _<_, _-_, _+_}
-use mathlib.Core.Path.{_≡_, refl, sym, ap, _∙_}
-use mathlib.Core.List.{List}
+use Prim.Native.Nat.{ℕ, _≤_, _<_, _-_}
+use mathlib.Core.Path.{_≡_, refl, _∙_}
 use native.Mathlib.Omega.{arith}
-use native.Mathlib.Decide.{ℕ-discrete}
 use denote.Ref.{now}
-use lib.ListN.{getD, set, length, length-set}
-use lib.Seq.{getD-set-same, getD-set-other}
+use lib.ListN.{getD, length, length-set}
 use Rattle.places.specs.Limits.{keyLimit}
 use Rattle.search.specs.Levels.{height}
+use Rattle.search.proofs.Laws.Fill.{filled-more}
 use Rattle.search.proofs.levels.row_of.Statement.{statement}
 use Rattle.search.proofs.levels.row_of.Tie as tie
 
@@ -18,13 +16,6 @@ Inv-loop levels root row₀ x₀ row x = (x ≤ keyLimit) × (length row ≡ key
 
 abbrev μ-loop : tie.MeasureT-loop
 μ-loop levels root row₀ x₀ row x = keyLimit - x
-
-byte-more : (f : ℕ → ℕ) (row : List ℕ) (x v : ℕ) → x < length row → v ≡ f x → ((y : ℕ) → y < x → getD row y 0 ≡ f y) → (y : ℕ) → y < x + 1 → getD (set row x v) y 0 ≡ f y
-byte-more f row x v lt e h y p = go (ℕ-discrete y x)
-  where
-    go : Dec (y ≡ x) → getD (set row x v) y 0 ≡ f y
-    go (yes q) = ap (λ (z : ℕ). getD (set row x v) z 0) q ∙ getD-set-same row x v 0 lt ∙ e ∙ ap f (sym q)
-    go (no n) = getD-set-other row x y v 0 n ∙ h y (omega (arith, n))
 
 loop-holds : tie.Need-loop-holds Inv-loop μ-loop
 loop-holds c = (search needs, refl, λ y p. absurd (omega arith))
@@ -45,7 +36,7 @@ loop-again : tie.Need-loop-again Inv-loop μ-loop
 loop-again c =
     let l = c .before .before .loop in
     let a = c .before .before .before .args in
-    (search needs, length-set (l .row) (l .x) (c .level .result) ∙ l .inv .1, byte-more (height (now (a .levels)) (a .root .0)) (l .row) (l .x) (c .level .result) (omega arith) (c .level .ensures) (l .inv .2))
+    (search needs, length-set (l .row) (l .x) (c .level .result) ∙ l .inv .1, filled-more (height (now (a .levels)) (a .root .0)) (l .row) (l .x) (c .level .result) (omega arith) (c .level .ensures) (l .inv .2))
 
 returns : tie.Need-returns Inv-loop μ-loop
 returns c = λ y p. c .before .loop .inv .2 y (omega arith)
