@@ -28,7 +28,7 @@ use Rattle.tables.specs.declared.answer.Answer.{Answer}
 use Rattle.tables.specs.declared.answer.Answer.the-variants.{Added, NotAdded, Refused}
 use Rattle.store.proofs.MadeLaws.{delegation-made, revocation-made}
 use Rattle.insertion.proofs.AnswerLaws.{delegation-added, revocation-added}
-use Rattle.tables.proofs.ContentLaws.{content-parts, revoked-same}
+use Rattle.tables.proofs.ContentLaws.{content-parts, revoked-parts}
 use Rattle.tables.proofs.PayloadLaws.{parts}
 use Rattle.order.specs.AnyOrder.{Certificate, delegation, revocation, answerTo, heldAfter, isRefused}
 use Rattle.order.proofs.Inserting.{found, more-distinct, Within, del-key, rev-key, key-of, keys-few}
@@ -189,7 +189,7 @@ module _ (c : Committed) (b : Built c) where
       go NotAdded e k =
           let q = revocation-known (seenRevocation c d) d i x e in
           let o = found (λ y. y .digest) (c .revocations) d noRevocation (q .held) in
-          let m = revoked-same (revocationWith c d) (revocationFrom d i x) (q .same) in
+          let m = revoked-parts (revocationWith c d) (revocationFrom d i x) (q .same) in
           let s = one-revocation (revocationWith c d) (revocationFrom d i x) (o .1) (m .0) (m .1) in
           same-revocation (q .names) (subst (λ (y : Revocation). List·Memᴰ y (c .revocations)) s (o .0))
 

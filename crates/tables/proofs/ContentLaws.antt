@@ -129,9 +129,9 @@ pub same-content : (g h : Delegation) → g .issuer ≡ h .issuer → payloadOf 
 unfolding sameContent
 same-content g h p q = rw (p, q, eq-refl (h .issuer)) (eq-refl (payloadOf h))
 
-pub revoked-same : (r q : Revocation) → sameRevoked r q ≡ true → (r .issuer ≡ q .issuer) × (r .revoked ≡ q .revoked)
+pub revoked-parts : (r q : Revocation) → sameRevoked r q ≡ true → (r .issuer ≡ q .issuer) × (r .revoked ≡ q .revoked)
 unfolding sameRevoked
-revoked-same r q e = let p = both-true _ _ e in (eq-true _ _ (p .0), eq-true _ _ (p .1))
+revoked-parts r q e = let p = both-true _ _ e in (eq-true _ _ (p .0), eq-true _ _ (p .1))
 
 pub same-revoked : (r q : Revocation) → r .issuer ≡ q .issuer → r .revoked ≡ q .revoked → sameRevoked r q ≡ true
 unfolding sameRevoked

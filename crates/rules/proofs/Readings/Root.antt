@@ -16,13 +16,13 @@ module _ {W : Shape} {E : W .Del → Type 0} {N : W .Key → Type 0} {c : W .Del
   through (D3 ne s t) = T3 (through s) (through t)
 
   module _ (same : (x y : W .Key) → Dec (x ≡ y)) where
-    around : {r x : W .Key} {l : ℕ} → StandsThrough W E N c r x l → AtLeast (Stands W E N c r x) l
-    around (T1 n) = just (D1 n)
-    around (T2 d e p n s) = over-edge d e p n (omega arith) (around s)
-    around (T3 {r = r} {u = u} s t) = elim (same u r) [
-      | yes e ↦ enough (rw e at (around t)) (omega arith)
-      | no ne ↦ over-through ne (around s) (around t)
+    straightened : {r x : W .Key} {l : ℕ} → StandsThrough W E N c r x l → AtLeast (Stands W E N c r x) l
+    straightened (T1 n) = just (D1 n)
+    straightened (T2 d e p n s) = over-edge d e p n (omega arith) (straightened s)
+    straightened (T3 {r = r} {u = u} s t) = elim (same u r) [
+      | yes e ↦ enough (rw e at (straightened t)) (omega arith)
+      | no ne ↦ over-through ne (straightened s) (straightened t)
     ]
 
     pub root-same : {r x : W .Key} {o : Option ℕ} → Answer (Stands W E N c r x) o ↔ Answer (StandsThrough W E N c r x) o
-    root-same = (answer-carry (λ l s. just (through s)) (λ l t. around t), answer-carry (λ l t. around t) (λ l s. just (through s)))
+    root-same = (answer-carry (λ l s. just (through s)) (λ l t. straightened t), answer-carry (λ l t. straightened t) (λ l s. just (through s)))
