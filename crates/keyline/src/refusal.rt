@@ -4,7 +4,7 @@ ghost use Rattle.keyline.specs.Refusal.{number_of, beside_of};
 
 use crate::limits::{DELEGATION_LIMIT, REVOCATION_LIMIT};
 
-#[derive(Drop)]
+#[derive(Clone, Copy)]
 pub enum Refusal {
     // A key or digest argument of another length; holds its length.
     BadLength(usize),

@@ -1,5 +1,7 @@
 // A set of keys as one 64-bit word: key i is a member where digit i is set.
 // What the search and the coverage of delegations work on. Each contract says what the members are, digit by digit.
+#![tactic(auto)]
+
 ghost use Rattle.std.specs.Prelude.{◌≡◌, ℕ, ◌-◌, ◌<◌, max, min, eqb};
 ghost use Rattle.keyset.specs.Word.{width, bit, size};
 

@@ -1,2 +1,4 @@
 // Bytes at a place of a lent buffer.
+#![tactic(auto)]
+
 pub mod bytes;

@@ -3,7 +3,7 @@ ghost use Rattle.std.specs.Prelude.{◌≡◌};
 ghost use Rattle.power_levels.specs.Power.{rank_of, byte_of, level_of, at_least, is_reader, is_editor, is_admin};
 
 // What an edge conveys; each level implies the ones below.
-#[derive(Drop)]
+#[derive(Clone, Copy)]
 pub enum Power {
     // Sync and forward ciphertext; cannot decrypt.
     Relay,
@@ -16,7 +16,7 @@ pub enum Power {
 }
 
 // What a power byte says.
-#[derive(Drop)]
+#[derive(Clone, Copy)]
 pub enum Level {
     Is(Power),
     Unknown,

@@ -34,9 +34,15 @@ module _ {W : Shape} {G : Graph W} where
       (conveys_no_more (itself b.caps a.caps) a.conveys b.conveys) (conveys_no_more (itself a.caps b.caps) b.conveys a.conveys)
 
   pub standing_settled : {d : W.Del} {o p : Standing} → StandingIs G d o → StandingIs G d p → o ≡ p
-  standing_settled (is_live v) t = elim t [ is_live w ↦ refl | is_revoked k h n r ↦ absurd (n v) | is_unsupported h n r ↦ absurd (n v) ]
-  standing_settled (is_revoked k h n r) t = elim t [ is_live v ↦ absurd (n v) | is_revoked j g m q ↦ refl | is_unsupported g m q ↦ absurd (q k r) ]
-  standing_settled (is_unsupported h n r) t = elim t [ is_live v ↦ absurd (n v) | is_revoked k g m q ↦ absurd (r k q) | is_unsupported g m q ↦ refl ]
+  standing_settled (is_live v) (is_live w) = refl
+  standing_settled (is_live v) (is_revoked k h n r) = absurd (n v)
+  standing_settled (is_live v) (is_unsupported h n r) = absurd (n v)
+  standing_settled (is_revoked k h n r) (is_live v) = absurd (n v)
+  standing_settled (is_revoked k h n r) (is_revoked j g m q) = refl
+  standing_settled (is_revoked k h n r) (is_unsupported g m q) = absurd (q k r)
+  standing_settled (is_unsupported h n r) (is_live v) = absurd (n v)
+  standing_settled (is_unsupported h n r) (is_revoked k g m q) = absurd (r k q)
+  standing_settled (is_unsupported h n r) (is_unsupported g m q) = refl
 
   member_carry : {κ κ' : W.Del → ℕ} {s : W.Key} → Caps G κ → Caps G κ' → (m : W.Key × ℕ) → Member G κ s m → Member G κ' s m
   member_carry k k' m h =

@@ -2,7 +2,6 @@
 -- Idea: rounds from Relay stay below every pre-fixed point (`Good`), and where nothing rises they are one (`caps`): so they are the least.
 -- It rests on `least_prefix_caps`: a least pre-fixed point is the caps.
 use Prim.Native.Nat.{ℕ, max, ◌≤◌}
-use mathlib.Core.Bool.{not}
 use mathlib.Core.List.{List, [], Memᴰ}
 use mathlib.Core.Logic.{inl, inr}
 use mathlib.Core.Path.{◌≡◌}
@@ -13,7 +12,7 @@ use Rattle.rules.specs.Numbered.{Del, Holding, World, world}
 use Rattle.rules.proofs.Derivations.Monotone.{stands_top}
 use Rattle.rules.proofs.Evaluation.LiveSet.{live_held, live_eligible}
 use Rattle.rules.proofs.Evaluation.Caps.{below_raise, least_prefix_caps, capped_below}
-use Rattle.rules.proofs.Plain.Evaluate.{Table, Marks, keep, look, val, levels, by_id, stands_in, excluded, covered, issuer_in, flagged, usable, live_flags, is_live_uncovered, isLive, cap_in, cap_of, cap_raise, cap_step, cap_table}
+use Rattle.rules.proofs.Plain.Evaluate.{Table, Marks, keep, look, val, levels, by_id, stands_in, excluded, issuer_in, flagged, usable, live_flags, is_live_uncovered, isLive, cap_in, cap_of, cap_raise, cap_step, cap_table}
 use Rattle.rules.proofs.Plain.Says.{Says, cond_yes, cond_no, alike, both, either}
 use Rattle.rules.proofs.Plain.Lists.{Exactly, members, keep_exactly}
 use Rattle.rules.proofs.Plain.Bytes.{says_stands, capped_above}

@@ -79,11 +79,13 @@ module _ {A : Type 0} (p : A → Bool) where
 
 module _ {A : Type 0} {p : A → Bool} where
   kept_out : {x : A} {xs ys : List A} → Kept p xs ys → Memᴰ x ys → Memᴰ x xs × (p x ≡ true)
+  kept_out end m = elim m [ ]
   kept_out (taken e k) (Memᴰ.head q) = (Memᴰ.head q, rw q e)
   kept_out (taken e k) (Memᴰ.tail m) = let h = kept_out k m in (Memᴰ.tail h.0, h.1)
   kept_out (passed n k) m = let h = kept_out k m in (Memᴰ.tail h.0, h.1)
 
   kept_in : {x : A} {xs ys : List A} → Kept p xs ys → Memᴰ x xs → p x ≡ true → Memᴰ x ys
+  kept_in end m t = elim m [ ]
   kept_in (taken e k) (Memᴰ.head q) t = Memᴰ.head q
   kept_in (taken e k) (Memᴰ.tail m) t = Memᴰ.tail (kept_in k m t)
   kept_in (passed n k) (Memᴰ.head q) t = absurd (n (ap p (sym q) ∙ t))
@@ -122,6 +124,7 @@ module _ {A : Type 0} (f g : A → ℕ) where
 
   pub total_tight : {x : A} (xs : List A) → ((x : A) → Memᴰ x xs → f x ≤ g x) → total g xs ≤ total f xs → Memᴰ x xs → g x ≤ f x
   unfolding total
+  total_tight [] h t m = elim m [ ]
   total_tight (y ∷ ys) h t (Memᴰ.head e) = rw e (omega (arith, total_le ys (λ z m. h z (Memᴰ.tail m))))
   total_tight (y ∷ ys) h t (Memᴰ.tail m) = total_tight ys (λ z m. h z (Memᴰ.tail m)) (omega (arith, h y (Memᴰ.head refl))) m
 
@@ -160,6 +163,7 @@ module _ {A : Type 0} {k : A → ℕ} {x : A} where
   put_in (later l p) = let s = put_in p in record { one = s.one; mem = Memᴰ.tail s.mem; is = s.is }
 
   put_keeps : {z : A} {ys zs : List A} → Put k x ys zs → Memᴰ z ys → Memᴰ z zs
+  put_keeps last m = elim m [ ]
   put_keeps (here l) m = Memᴰ.tail m
   put_keeps (stands e) m = m
   put_keeps (later l p) (Memᴰ.head e) = Memᴰ.head e
@@ -185,6 +189,7 @@ module _ {A : Type 0} (k : A → ℕ) where
 
   -- In an ascending list one key has one place.
   pub ascending_one : {xs : List A} → Ascending (Lower k) xs → {x y : A} → Memᴰ x xs → Memᴰ y xs → k x ≡ k y → x ≡ y
+  ascending_one done m n e = elim m [ ]
   ascending_one (before a s) (Memᴰ.head p) (Memᴰ.head q) e = p ∙ sym q
   ascending_one (before a s) {y = y} (Memᴰ.head p) (Memᴰ.tail n) e = absurd (omega (arith, a y n, ap k p))
   ascending_one (before a s) {x} (Memᴰ.tail m) (Memᴰ.head q) e = absurd (omega (arith, a x m, ap k q))

@@ -10,7 +10,7 @@ use borrow.Author.Tests.{eqb-true}
 use lib.Dec.{eqb}
 use Rattle.rules.specs.Rules.{done, Lists, Excluded, Closure, ClosureRev, Standing, live, revoked, unsupported, StandingIs, PositiveIs, EffectiveIs, ConveyedIs, MembersAre}
 use Rattle.rules.specs.Rows.{level_of}
-use Rattle.rules.specs.Numbered.{Del, Rev, Holding, store, world, Lower, Less, Cert, delegation, revocation, add, adding, inserted}
+use Rattle.rules.specs.Numbered.{Del, Rev, Holding, store, world, Lower, Less, Cert, delegation, revocation, add, adding, inserted, insert}
 use Rattle.rules.specs.Facts.{Fact, positive, effective, conveyed, capped, alive, dead, standing, excluding, closure, members, Right, Case, Specimen, Holds}
 use Rattle.rules.proofs.Plain.Evaluate.{agree, same, flagged, cap_in, Eval, evaluate, positive_of, effective_of, members_of, held_of, excluded_of, live_of, conveyed_of, standing_of, closure_of, closure_revs_of}
 use Rattle.rules.proofs.Plain.Says.{says_true, both, neither, says}
@@ -133,8 +133,8 @@ inserted_sorted cs = go cs (record { dels = done; revs = done })
   where
     go : {S : Holding} (cs : List Cert) → Sorted S → Sorted (adding S cs)
     go [] o = o
-    go (delegation d ∷ cs) o = go cs (record { dels = insert_ascending (λ d. d.digest) d o.dels; revs = o.revs })
-    go (revocation v ∷ cs) o = go cs (record { dels = o.dels; revs = insert_ascending (λ v. v.digest) v o.revs })
+    go {S = S} (delegation d ∷ cs) o = go {S = record { dels = insert (λ d. d.digest) d S.dels; revs = S.revs }} cs (record { dels = insert_ascending (λ d. d.digest) d o.dels; revs = o.revs })
+    go {S = S} (revocation v ∷ cs) o = go {S = record { dels = S.dels; revs = insert (λ v. v.digest) v S.revs }} cs (record { dels = o.dels; revs = insert_ascending (λ v. v.digest) v o.revs })
 
 unfoldable pub every : {A : Type 0} → (A → Bool) → List A → Bool
 every p [] = true

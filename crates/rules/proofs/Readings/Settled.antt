@@ -20,9 +20,15 @@ module _ {W : Shape} {G : Graph W} {R : Reading W} {d : W.Del} where
 
   -- The dead ones are enough to compare two answers.
   pub dead_standing : {o p : Standing} → (¬ Live G d) ↔ (¬ LiveBy G R d) → StandingIs G d o → StandingIsBy G R d p → o ≡ p
-  dead_standing e (is_live v) t = elim t [ live_by w ↦ refl | revoked_by k h n r ↦ absurd (e.1 n v) | unsupported_by h n r ↦ absurd (e.1 n v) ]
-  dead_standing e (is_revoked k h n r) t = elim t [ live_by w ↦ absurd (e.0 n w) | revoked_by j g m q ↦ refl | unsupported_by g m q ↦ absurd (q k r) ]
-  dead_standing e (is_unsupported h n r) t = elim t [ live_by w ↦ absurd (e.0 n w) | revoked_by k g m q ↦ absurd (r k q) | unsupported_by g m q ↦ refl ]
+  dead_standing e (is_live v) (live_by w) = refl
+  dead_standing e (is_live v) (revoked_by k h n r) = absurd (e.1 n v)
+  dead_standing e (is_live v) (unsupported_by h n r) = absurd (e.1 n v)
+  dead_standing e (is_revoked k h n r) (live_by w) = absurd (e.0 n w)
+  dead_standing e (is_revoked k h n r) (revoked_by j g m q) = refl
+  dead_standing e (is_revoked k h n r) (unsupported_by g m q) = absurd (q k r)
+  dead_standing e (is_unsupported h n r) (live_by w) = absurd (e.0 n w)
+  dead_standing e (is_unsupported h n r) (revoked_by k g m q) = absurd (r k q)
+  dead_standing e (is_unsupported h n r) (unsupported_by g m q) = refl
 
 pub each_way_same : {W : Shape} {G : Graph W} {R : Reading W} → EachWay G R → SameAnswers G R
 each_way_same e = record {

@@ -1,0 +1,12 @@
+-- `copy_at` puts the run into the buffer. The loop's invariant: the first j bytes of the run are pasted in, and nothing else has changed.
+use Prim.Native.Nat.{◌-◌, ◌≤◌}
+use mathlib.Core.Path.{◌≡◌}
+use lib.ListN.{length}
+use lib.Seq.{paste}
+use Rattle.lent.proofs.bytes.copy_at.Given as goal
+
+abbrev pub invariant-loop-j : goal.invariant-loop-j
+invariant-loop-j l = (l.out ≡ paste l.initial.out l.at l.src l.j) × (l.j ≤ length l.src) × (length l.out ≡ length l.initial.out)
+
+abbrev pub decreases-loop-j : goal.decreases-loop-j
+decreases-loop-j l = length l.src - l.j
