@@ -14,14 +14,14 @@ const CITATION_ABSENT: u8 = 0;
 const CITATION_PRESENT: u8 = 1;
 
 // What a reader finds: the power and whether a citation follows, or why the payload is refused.
-#[derive(Drop)]
+#[derive(Clone, Copy)]
 pub enum Decoded {
     Accepted(Power, bool),
     Refused(Refusal),
 }
 
 // What a writer answers: how many bytes it wrote, or why it wrote none.
-#[derive(Drop)]
+#[derive(Clone, Copy)]
 pub enum Encoded {
     Bytes(usize),
     Refused(Refusal),

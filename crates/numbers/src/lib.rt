@@ -1,5 +1,7 @@
 // The delegation payload's reader and writer in numbers, as C takes them: each answers a refusal's number, or 0, and puts every other part of
 // the answer behind a pointer of the caller's.
+#![tactic(auto)]
+
 ghost use Rattle.std.specs.Prelude.{◌≡◌, length};
 ghost use Rattle.codec.specs.Delegation.{decoded, citation_of, encode_answer, after_encode};
 ghost use Rattle.numbers.specs.Numbers.{decode_number, decode_beside, decode_power, decode_rank, citation_bytes, encode_number, encode_beside, encode_written};

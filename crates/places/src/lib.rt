@@ -1,5 +1,6 @@
 // Places in the tables of keys, delegations and revocations, apart by type, and how many places each table has.
 // specs/Limits.antt has the same numbers for contracts.
+#![tactic(auto)]
 
 ghost use Rattle.std.specs.Prelude.{◌≡◌};
 
@@ -16,13 +17,13 @@ pub const RELAY: usize = 0;
 
 pub const ADMIN: usize = 3;
 
-#[derive(Drop)]
+#[derive(Clone, Copy)]
 pub struct KeyPlace(pub usize);
 
-#[derive(Drop)]
+#[derive(Clone, Copy)]
 pub struct DelegationPlace(pub usize);
 
-#[derive(Drop)]
+#[derive(Clone, Copy)]
 pub struct RevocationPlace(pub usize);
 
 // A place that a table keeps in a byte, as an index.

@@ -86,6 +86,7 @@ without a b x k n = rw (has-append a (x ∷ b) k, has-append a b k, n)
 -- ---- as membership, of which the rules speak
 pub mem_has : (x : Bytes) (l : List Bytes) → Memᴰ x l → has l x ≡ true
 unfolding has
+mem_has x [] m = elim m [ ]
 mem_has x (y ∷ l) (Memᴰ.head e) = rw (e, eq_refl y)
 mem_has x (y ∷ l) (Memᴰ.tail m) = or_right (eq_bytes y x) (has l x) (mem_has x l m)
 

@@ -12,7 +12,7 @@ use crate::table::LARGE_LIMIT;
 use places::wide;
 
 // Places, in ascending order of their runs: as many as count says.
-#[derive(Drop)]
+#[derive(Clone, Copy)]
 pub struct Chosen {
     pub places: [u8; LARGE_LIMIT],
     pub count: usize,

@@ -20,7 +20,7 @@ pub const SMALL_TABLE: usize = (RUN_LENGTH + 1) * SMALL_LIMIT;
 pub const LARGE_TABLE: usize = (RUN_LENGTH + 1) * LARGE_LIMIT;
 
 // Where a run stands, and how many runs the table has then.
-#[derive(Drop)]
+#[derive(Clone, Copy)]
 pub struct Interned {
     pub place: usize,
     pub count: usize,

@@ -1,6 +1,6 @@
 -- Content is issuer and payload: equal content is equal issuer and equal payload bytes; the parts settle the payload's bytes, and an accepted
 -- payload is the one that its delegation came as. Rests on the payload's round trips.
-use Prim.Native.Nat.{ℕ, ◌+◌, ◌<◌}
+use Prim.Native.Nat.{ℕ, ◌<◌}
 use mathlib.Core.Path.{◌≡◌, refl, sym, ap}
 use mathlib.Core.Bool.{Bool, true, false, cond}
 use mathlib.Core.List.{[], ◌∷◌, ◌++◌}

@@ -14,7 +14,7 @@ use places::{DelegationPlace, KeyPlace, RevocationPlace};
 use power_levels::power::Power;
 use runs::bytes;
 
-#[derive(Drop)]
+#[derive(Clone, Copy)]
 pub enum Answer {
     Added,
     NotAdded,

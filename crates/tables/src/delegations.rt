@@ -14,7 +14,7 @@ use runs::table::LARGE_TABLE;
 use runs::{bytes, table};
 
 // A key is named by its place in one byte, a power by its rank.
-#[derive(Drop)]
+#[derive(Clone, Copy)]
 pub struct Delegations {
     pub digests: [u8; LARGE_TABLE],
     pub count: usize,
@@ -27,7 +27,7 @@ pub struct Delegations {
 }
 
 // One row of the columns, but for the citation's bytes.
-#[derive(Drop)]
+#[derive(Clone, Copy)]
 pub struct DelegationRow {
     pub issuer: KeyPlace,
     pub audience: KeyPlace,

@@ -10,7 +10,7 @@ use places::KeyPlace;
 use runs::table::SMALL_TABLE;
 use runs::{bytes, table};
 
-#[derive(Drop)]
+#[derive(Clone, Copy)]
 pub struct Keys {
     pub table: [u8; SMALL_TABLE],
     pub count: usize,

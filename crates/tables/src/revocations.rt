@@ -13,7 +13,7 @@ use runs::bytes::RUN_LENGTH;
 use runs::table::SMALL_TABLE;
 use runs::{bytes, table};
 
-#[derive(Drop)]
+#[derive(Clone, Copy)]
 pub struct Revocations {
     pub digests: [u8; SMALL_TABLE],
     pub count: usize,
