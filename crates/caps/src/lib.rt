@@ -4,6 +4,7 @@
 // round, and the last round raises none. Rising from the bottom keeps levels grounded: two covered delegations on each other's derivation
 // cannot lift each other. The cap of an uncovered one would be the lesser of its power and its issuer's level: a search that steps along it
 // takes that lesser anyway, so its grade is its power's.
+#![tactic(auto)]
 
 ghost use Rattle.std.specs.Prelude.{◌≡◌, ℕ, ◌+◌, ◌<◌, ◌≤◌, min, max, get_or, length};
 ghost use Rattle.places.specs.Limits.{key_limit, delegation_limit, revocation_limit};

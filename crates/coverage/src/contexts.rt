@@ -7,7 +7,7 @@ ghost use Rattle.coverage.specs.Contexts.{Sought, Grouped};
 
 use places::{DELEGATION_LIMIT, REVOCATION_LIMIT, wide};
 
-#[derive(Drop)]
+#[derive(Clone, Copy)]
 pub struct Groups {
     pub count: usize,
     // each context's exclusion set

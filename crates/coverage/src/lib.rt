@@ -7,6 +7,7 @@
 // delegation's level c(d) plus one, and 0 where it is not usable: one array of grades is the live set, the caps and the search's input.
 //
 // A covered delegation is named by a revocation, so a set of covered delegations is one word over the places of revocations.
+#![tactic(auto)]
 
 pub mod contexts;
 pub mod members;
@@ -24,7 +25,7 @@ use places::{ADMIN, DELEGATION_LIMIT, KeyPlace, RELAY, REVOCATION_LIMIT, wide};
 use search::Levels;
 
 // What the tables hold, at places.
-#[derive(Drop)]
+#[derive(Clone, Copy)]
 pub struct Facts {
     pub issuer: [u8; DELEGATION_LIMIT],
     pub audience: [u8; DELEGATION_LIMIT],

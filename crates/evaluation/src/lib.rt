@@ -1,5 +1,6 @@
 // One evaluation of a store at places: what every query after an insertion shares. Stratum 1 (coverage) is blind to revocations; stratum 2 is
 // the live set and the caps, each a crate of its name. Each question that is asked afterwards stands here, in a module of its name.
+#![tactic(auto)]
 
 pub mod conveyed;
 pub mod levels;
@@ -15,7 +16,7 @@ use coverage::Facts;
 use places::{DELEGATION_LIMIT, KEY_LIMIT, LEVEL_COUNT};
 use search::Levels;
 
-#[derive(Drop)]
+#[derive(Clone, Copy)]
 pub struct Evaluation {
     pub facts: Facts,
     // the subjects of held delegations

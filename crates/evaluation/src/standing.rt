@@ -11,7 +11,7 @@ ghost use Rattle.evaluation.specs.Result.{Evaluated, standing_of};
 use crate::Evaluation;
 use places::{DelegationPlace, REVOCATION_LIMIT, wide};
 
-#[derive(Drop)]
+#[derive(Clone, Copy)]
 pub enum Standing {
     Live,
     Revoked,

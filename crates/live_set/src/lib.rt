@@ -2,6 +2,7 @@
 //
 // Every uncovered delegation is usable from the first round: a search steps along one only from a key that it has reached. Each round judges
 // the covered ones that are open against the grades before it, one search for each context, and the last round adds none.
+#![tactic(auto)]
 
 pub mod revoked_by_audience;
 

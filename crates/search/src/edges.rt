@@ -7,7 +7,7 @@ ghost use Rattle.search.specs.Index.{Indexed};
 
 use places::{DELEGATION_LIMIT, KEY_LIMIT, wide};
 
-#[derive(Drop)]
+#[derive(Clone, Copy)]
 pub struct Edges {
     // for each subject the keys that issued about it
     pub issuers: [u64; KEY_LIMIT],

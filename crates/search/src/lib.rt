@@ -7,6 +7,7 @@
 // widest    one pass: a root's row, with the rows found so far
 // rounds    passes over the roots whose rows can still rise
 // levels    what is read off the levels that were found
+#![tactic(auto)]
 
 pub mod edges;
 pub mod levels;

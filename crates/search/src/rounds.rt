@@ -49,7 +49,7 @@ fn waiting(r: usize, roots: u64, levels: &Levels) -> u64
 }
 
 // Where a round stands: the roots that are known, those that are left in this round, and those due in the next.
-#[derive(Drop)]
+#[derive(Clone, Copy)]
 pub struct Turn {
     pub known: u64,
     pub left: u64,

@@ -9,7 +9,7 @@ use native.Mathlib.Decide.{ℕ_discrete, dec_lt}
 use lib.ListN.{get_or}
 use Rattle.keyset.specs.Word.{bit}
 use Rattle.places.specs.Limits.{delegation_limit}
-use Rattle.rules.specs.Rules.{Answer, LiveCovered, LiveUncovered, Live, Avoiding, PreFixed, Caps}
+use Rattle.rules.specs.Rules.{Answer, LiveCovered, LiveUncovered, Live, Avoiding, PreFixed}
 use Rattle.rules.proofs.Derivations.Answers.{Under, answer_carry}
 use Rattle.rules.proofs.Derivations.Monotone.{mono}
 use Rattle.rules.proofs.Evaluation.Caps as least

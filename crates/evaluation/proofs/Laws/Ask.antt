@@ -9,7 +9,7 @@ use native.Mathlib.Decide.{ℕ_discrete}
 use lib.ListN.{get_or}
 use Rattle.keyset.specs.Word.{bit}
 use Rattle.places.specs.Limits.{level_count}
-use Rattle.rules.specs.Rules.{Admin, Node, StandingIs, is_revoked, is_unsupported, revoked, unsupported, Nobody, Positive, Effective, Answer, absent, level, LiveCovered, LiveUncovered, Live, PositiveIs, EffectiveIs, ConveyedIs, Conveys, cap, plain, nothing}
+use Rattle.rules.specs.Rules.{Admin, Node, StandingIs, is_revoked, is_unsupported, revoked, unsupported, Nobody, Positive, Effective, Answer, absent, LiveCovered, LiveUncovered, Live, PositiveIs, EffectiveIs, ConveyedIs, Conveys, cap, plain, nothing}
 use Rattle.rules.proofs.Derivations.Monotone.{mono}
 use Rattle.rules.proofs.Derivations.Answers.{answer_carry, greatest_of}
 use Rattle.rules.proofs.Evaluation.LiveSet.{effective_exists}

@@ -1,0 +1,17 @@
+-- `coverage::contexts::find` meets its contract. The loop's invariant: none of the contexts before c excludes w.
+use borrow.Author.Rules.{rules}
+use native.Mathlib.Omega.{arith}
+use borrow.Author.Count.{below_more}
+use Rattle.coverage.proofs.contexts.find.Goals as goal
+
+pub loop-c-init : goal.loop-c-init
+loop-c-init c = (search rules, λ i h. absurd (omega arith))
+
+pub returns-then-exclude-c : goal.returns-then-exclude-c
+returns-then-exclude-c c = record { le = c.loop-c.invariant.0; found = λ h. c.if-exclude-c.true; first = c.loop-c.invariant.1 }
+
+pub loop-c-preserved : goal.loop-c-preserved
+loop-c-preserved c = (search rules, below_more _ _ c.loop-c.invariant.1 c.if-exclude-c.false)
+
+pub returns : goal.returns
+returns c = record { le = c.loop-c.invariant.0; found = λ h. absurd (omega arith); first = c.loop-c.invariant.1 }
