@@ -1,6 +1,8 @@
 // Where to look first for a key or a digest. Two bytes of a run choose a slot, and the slot says at which place of the table such a run was seen
 // last. A hint is followed and never believed: the run at its place is compared, and where it is another one, the table is searched. So
 // no contract says what a hint is.
+#![tactic(auto)]
+
 ghost use Rattle.std.specs.Prelude.{◌≡◌, ◌+◌, ◌*◌, ◌<◌, ◌≤◌, length};
 ghost use Rattle.runs.specs.Bytes.{run_length, run_at, eq_bytes};
 ghost use Rattle.runs.specs.Table.{large_limit};
@@ -18,7 +20,7 @@ pub const FRONT: usize = 0;
 
 pub const BACK: usize = RUN_LENGTH - 2;
 
-#[derive(Drop)]
+#[derive(Clone, Copy)]
 pub struct Hints {
     pub keys: [u8; SLOTS],
     pub delegations: [u8; SLOTS],

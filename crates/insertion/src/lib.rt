@@ -1,5 +1,7 @@
 // Insertion into a store. It first works out its answer from the tables as they are lent, and only where that is Added changes them, where they
 // lie: so a refusal leaves the store as it was, and nothing of the store is copied on the way.
+#![tactic(auto)]
+
 ghost use Rattle.std.specs.Prelude.{◌≡◌};
 ghost use Rattle.codec.specs.Delegation.{decoded};
 ghost use Rattle.tables.specs.Insertion.{read_rank, delegation_answer, delegation_added, revocation_answer, revocation_added};
@@ -13,7 +15,7 @@ use runs::table;
 use store::Store;
 use tables::answer::Answer;
 
-#[derive(Drop)]
+#[derive(Clone, Copy)]
 pub struct Inserted {
     pub answer: Answer,
     pub store: Store,

@@ -13,7 +13,7 @@ use borrow.Author.Tests.{eq-eqb, ne_eqb}
 use Rattle.runs.specs.Bytes.{Bytes, run_at, eq_bytes}
 use Rattle.runs.specs.Members.{place}
 use Rattle.runs.specs.Table.{large_limit, tabulate, runs, order, Below, GoodRuns}
-use Rattle.runs.specs.Chosen.{picked, chosen, Chose}
+use Rattle.runs.specs.Chosen.{picked, Chose}
 use Rattle.runs.specs.declared.list.Chosen.{Chosen}
 use Rattle.runs.proofs.ByteLaws.{eq_true, eq_same}
 use Rattle.runs.proofs.PartLaws.{order_long}

@@ -8,14 +8,14 @@ use runs::bytes::RUN_LENGTH;
 use runs::list::Chosen;
 
 // How many items, each of 32 bytes.
-#[derive(Drop)]
+#[derive(Clone, Copy)]
 pub enum Listed {
     Items(usize),
     Refused(Refusal),
 }
 
 // Two lists, one behind the other, and a count for each.
-#[derive(Drop)]
+#[derive(Clone, Copy)]
 pub enum BothListed {
     Items(usize, usize),
     Refused(Refusal),

@@ -9,7 +9,7 @@ use keyline::limits::DIGEST_LENGTH;
 use keyline::refusal::Refusal;
 use store::Store;
 
-#[derive(Drop)]
+#[derive(Clone, Copy)]
 pub enum Contained {
     Is(bool),
     Refused(Refusal),

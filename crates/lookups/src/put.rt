@@ -16,7 +16,7 @@ use runs::bytes;
 use runs::bytes::RUN_LENGTH;
 use tables::delegations::DelegationRow;
 
-#[derive(Drop)]
+#[derive(Clone, Copy)]
 pub enum Looked {
     Held(usize),
     Absent,

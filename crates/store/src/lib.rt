@@ -1,4 +1,6 @@
 // The store, by value: what it holds, the empty one, and how much it holds. What is put into it is in insertion.
+#![tactic(auto)]
+
 ghost use Rattle.std.specs.Prelude.{◌≡◌, eqb};
 ghost use Rattle.tables.specs.Committed.{nothing, length_of};
 ghost use Rattle.store.specs.Store.{committed, GoodStore};
@@ -10,7 +12,7 @@ use tables::delegations::Delegations;
 use tables::keys::Keys;
 use tables::revocations::Revocations;
 
-#[derive(Drop)]
+#[derive(Clone, Copy)]
 pub struct Store {
     pub keys: Keys,
     pub delegations: Delegations,

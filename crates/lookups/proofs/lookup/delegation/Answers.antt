@@ -1,0 +1,65 @@
+-- What is found is the delegation with that digest.
+use mathlib.Core.Path.{◌≡◌, refl, sym, ◌∙◌}
+use mathlib.Core.Bool.{true, false}
+use borrow.Author.Tests.{lt-ltb, le-ltb}
+use Rattle.runs.specs.Members.{has}
+use Rattle.tables.specs.Committed.{delegation_digests, delegation_with}
+use Rattle.tables.specs.Columns.{delegation_at}
+use Rattle.store.specs.Store.{committed}
+use Rattle.store.proofs.ViewLaws.{delegation_found, delegation_is, row_fits}
+use Rattle.lookups.proofs.LookLaws.{look_bad, look_absent, look_there}
+use Rattle.lookups.proofs.lookup.delegation.Goals as goal
+
+-- what the parts say, of the delegation that they are the parts of
+said : {A B : Type 0} (g h : A) (P : A → B → Type 0) (r : B) → g ≡ h → P h r → P g r
+said g h P r e p = rw e p
+
+pub returns-then-digest-ne-DIGEST_LENGTH : goal.returns-then-digest-ne-DIGEST_LENGTH
+returns-then-digest-ne-DIGEST_LENGTH c =
+    (sym (look_bad c.args.digest.now _ (has (delegation_digests (committed c.args.s)) c.args.digest.now) c.if-digest-ne-DIGEST_LENGTH.true), refl, refl)
+
+pub slice_bounds-find-end : goal.slice_bounds-find-end
+slice_bounds-find-end c = sym c.requires.delegations.digests.long
+
+pub slice_bounds-row-end : goal.slice_bounds-row-end
+slice_bounds-row-end c = sym c.requires.delegations.issuer.long
+
+pub slice_bounds-row-end-then-at-n : goal.slice_bounds-row-end-then-at-n
+slice_bounds-row-end-then-at-n c = sym c.requires.delegations.audience.long
+
+pub slice_bounds-row-end-then-at-n-2 : goal.slice_bounds-row-end-then-at-n-2
+slice_bounds-row-end-then-at-n-2 c = sym c.requires.delegations.subject.long
+
+pub slice_bounds-row-end-then-at-n-3 : goal.slice_bounds-row-end-then-at-n-3
+slice_bounds-row-end-then-at-n-3 c = sym c.requires.delegations.power.long
+
+pub slice_bounds-row-end-then-at-n-4 : goal.slice_bounds-row-end-then-at-n-4
+slice_bounds-row-end-then-at-n-4 c = sym c.requires.delegations.cited
+
+pub slice_bounds-put_delegation-end : goal.slice_bounds-put_delegation-end
+slice_bounds-put_delegation-end c = sym c.requires.keys.long
+
+pub slice_bounds-put_delegation-end-then-at-n : goal.slice_bounds-put_delegation-end-then-at-n
+slice_bounds-put_delegation-end-then-at-n c = sym c.requires.delegations.citation
+
+pub put_delegation-requires : goal.put_delegation-requires
+put_delegation-requires c = rw c.row-row.ensures (row_fits c.args.s c.requires c.find-at.result c.if-at-n.true)
+
+pub returns-then-at-n : goal.returns-then-at-n
+returns-then-at-n c =
+    let st = c.args.s in
+    let d = c.args.digest.now in
+    let at = c.find-at.result in
+    let h = c.if-at-n.true in
+    let w : delegation_with (committed st) d ≡ delegation_at st.keys.table st.delegations at.0 = delegation_is st c.requires d at.0 c.find-at.ensures h in
+    let f : has (delegation_digests (committed st)) d ≡ true = sym (delegation_found st c.requires d at.0 c.find-at.ensures) ∙ lt-ltb at.0 st.delegations.count h in
+    let p = rw c.row-row.ensures at c.put_delegation.ensures in
+    rw (f, w) (p.0 ∙ sym (look_there d _ c.if-digest-ne-DIGEST_LENGTH.false), p.1, p.2)
+
+pub returns : goal.returns
+returns c =
+    let st = c.args.s in
+    let d = c.args.digest.now in
+    let at = c.find-at.result in
+    let f : has (delegation_digests (committed st)) d ≡ false = sym (delegation_found st c.requires d at.0 c.find-at.ensures) ∙ le-ltb at.0 st.delegations.count c.if-at-n.false in
+    rw f (sym (look_absent d _ c.if-digest-ne-DIGEST_LENGTH.false), refl, refl)

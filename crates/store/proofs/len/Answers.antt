@@ -1,0 +1,6 @@
+use mathlib.Core.Path.{sym}
+use Rattle.store.proofs.ViewLaws.{length_is}
+use Rattle.store.proofs.len.Goals as goal
+
+pub returns : goal.returns
+returns c = sym (length_is c.args.s)
