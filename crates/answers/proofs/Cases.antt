@@ -37,7 +37,6 @@ use Rattle.answers.specs.declared.sought.Pair.{Pair}
 use Rattle.answers.specs.declared.sought.Pair.TheVariants as pair
 use Rattle.answers.specs.declared.sought.SoughtDelegation.{SoughtDelegation}
 use Rattle.answers.specs.declared.sought.SoughtDelegation.TheVariants as delegation
-use Rattle.answers.proofs.Places.{table}
 
 -- ## Bytes that say a level are at most 4
 level_small : (b : ℕ) {l : ℕ} → level_of b ≡ some l → l ≤ Admin → b ≤ level_count

@@ -5,14 +5,13 @@ use mathlib.Core.Path.{◌≡◌, refl, sym, ◌∙◌, ap, subst}
 use mathlib.Core.Bool.{Bool, true, false}
 use mathlib.Core.List.Memᴰ
 use mathlib.Core.List.{List, [], ◌∷◌, map, Memᴰ}
-use native.Mathlib.Omega.{arith}
 use lib.ListN.{get_or}
 use Rattle.rules.specs.Rules.{Ascending, done, Lists, Node, Closure, ClosureRev}
 use Rattle.rules.proofs.Derivations.Monotone.{stands_alone}
 use Rattle.rules.proofs.Stores.Places.{node_bytes}
 use Rattle.keyset.specs.Word.{bit}
 use Rattle.runs.specs.Bytes.{Bytes, Less, run_at}
-use Rattle.runs.specs.Members.{has, place}
+use Rattle.runs.specs.Members.{has}
 use Rattle.runs.specs.Table.{runs, order, GoodRuns}
 use Rattle.runs.specs.Chosen.{picked, Marked}
 use Rattle.runs.proofs.TableLaws.{found_at}

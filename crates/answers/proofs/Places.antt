@@ -1,6 +1,6 @@
 -- What is evaluated at places is what the definitions say over bytes: the instance of `Table` (Rattle.rules, Stores/Places) that the tables
 -- of a good store are.
-use Prim.Native.Nat.{ℕ, zero, suc, ◌+◌, ◌<◌}
+use Prim.Native.Nat.{ℕ, zero, suc, ◌<◌}
 use mathlib.Core.Path.{◌≡◌, refl, sym, ◌∙◌, ap}
 use mathlib.Core.Logic.{inl, inr}
 use mathlib.Core.List.Memᴰ

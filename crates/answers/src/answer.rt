@@ -8,7 +8,7 @@ use keyline::refusal::Refusal;
 use power_levels::power::Power;
 
 // A key's power over a subject, or what a delegation conveys.
-#[derive(Drop)]
+#[derive(Clone, Copy)]
 pub enum Powered {
     Level(Power),
     Nothing,
@@ -16,7 +16,7 @@ pub enum Powered {
 }
 
 // Whether a delegation is live. One that is not held is not.
-#[derive(Drop)]
+#[derive(Clone, Copy)]
 pub enum Liveness {
     Live,
     Dead,
@@ -24,7 +24,7 @@ pub enum Liveness {
 }
 
 // A held delegation's standing, or that none has the digest.
-#[derive(Drop)]
+#[derive(Clone, Copy)]
 pub enum Stood {
     Live,
     Revoked,

@@ -8,7 +8,7 @@ use keyline::refusal::Refusal;
 use places::{DelegationPlace, KeyPlace};
 
 // A subject and an audience.
-#[derive(Drop)]
+#[derive(Clone, Copy)]
 pub enum Pair {
     Refused(Refusal),
     Same,
@@ -16,14 +16,14 @@ pub enum Pair {
     At(KeyPlace, KeyPlace),
 }
 
-#[derive(Drop)]
+#[derive(Clone, Copy)]
 pub enum SoughtKey {
     Refused(Refusal),
     Unheld,
     At(KeyPlace),
 }
 
-#[derive(Drop)]
+#[derive(Clone, Copy)]
 pub enum SoughtDelegation {
     Refused(Refusal),
     Unheld,

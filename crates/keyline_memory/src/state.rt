@@ -15,12 +15,12 @@ use queries::evaluated::Evaluated;
 use store::Store;
 use tables::answer::Answer;
 
-#[derive(Drop)]
+#[derive(Clone, Copy)]
 pub struct State {
     store: Store,
 }
 
-#[derive(Drop)]
+#[derive(Clone, Copy)]
 pub struct Inserted {
     pub answer: Answer,
     pub state: State,

@@ -1,6 +1,8 @@
 // A key's power over a subject, positive or effective, and what a delegation conveys: put to a store and its evaluation. The places of two keys are
 // found here, that of a delegation comes with the question; the answer is what the evaluation says of those places. Copies of columns are
 // lent: of a value whose own part is lent the whole is copied.
+#![tactic(auto)]
+
 ghost use Rattle.answers.specs.Answers.{PositivePower, EffectivePower, ConveyedPower};
 ghost use Rattle.answers.specs.Sought.{DelegationOf};
 ghost use Rattle.store.specs.Store.{committed};

@@ -3,7 +3,6 @@ use Prim.Native.Nat.{ℕ, ◌*◌, ◌≤◌, ◌<◌}
 use mathlib.Core.Path.{◌≡◌, sym, ap, ◌∙◌}
 use native.Mathlib.Omega.{arith}
 use lib.ListN.{length}
-use Rattle.keyline.specs.Limits.{key_length, digest_length}
 use Rattle.places.specs.declared.KeyPlace.{KeyPlace}
 use Rattle.places.specs.declared.DelegationPlace.{DelegationPlace}
 use Rattle.runs.specs.Bytes.{Bytes, run_length, run_at}

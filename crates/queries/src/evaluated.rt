@@ -18,7 +18,7 @@ use lists::write::{BothListed, Listed};
 use places::{DelegationPlace, KeyPlace};
 use store::Store;
 
-#[derive(Drop)]
+#[derive(Clone, Copy)]
 pub struct Evaluated {
     store: Store,
     evaluation: Evaluation,

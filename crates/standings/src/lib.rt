@@ -1,4 +1,6 @@
 // How a delegation stands whose place was sought, put to a store and its evaluation: live, revoked or unsupported, and whether it is live.
+#![tactic(auto)]
+
 ghost use Rattle.answers.specs.Answers.{IsLive, StandingAnswer};
 ghost use Rattle.answers.specs.Sought.{DelegationOf};
 ghost use Rattle.store.specs.Store.{committed};

@@ -1,0 +1,99 @@
+-- `closure` meets its contract: what was sought settles the case, and the chosen places are the closure's.
+use mathlib.Core.Path.{sym}
+use native.Mathlib.Omega.{arith}
+use Rattle.lent.specs.Bytes.{front}
+use Rattle.runs.specs.Bytes.{joined}
+use Rattle.keyline.specs.Limits.{delegation_limit, revocation_limit}
+use Rattle.store.specs.Store.{committed}
+use Rattle.lists.specs.declared.write.BothListed.TheVariants as two
+use Rattle.lists.proofs.ChosenLaws.{stand}
+use Rattle.answers.specs.Answers as says
+use Rattle.answers.specs.Answers.{ClosureAnswer}
+use Rattle.answers.proofs.Closures.{no_closure}
+use Rattle.answers.proofs.Seeking.{key_refused, key_unheld, key_at}
+use Rattle.answers.proofs.ClosureAnswered.{closure_answer}
+use Rattle.gathered.proofs.closure.closure.Goals as goal
+
+pub slice_bounds-seek_key-end : goal.slice_bounds-seek_key-end
+slice_bounds-seek_key-end c = sym c.requires.store.keys.long
+
+pub nodes-nodes-requires : goal.nodes-nodes-requires
+nodes-nodes-requires c =
+    let g = c.requires in
+    let a = key_at c.seek_key-asked.ensures c.in-At.is in
+    let h = a.within in
+    let r = g.store.keys.room in
+    (g.evaluation, omega arith)
+
+pub slice_bounds-in_nodes-end : goal.slice_bounds-in_nodes-end
+slice_bounds-in_nodes-end c = sym c.requires.store.delegations.subject.long
+
+pub slice_bounds-naming-end : goal.slice_bounds-naming-end
+slice_bounds-naming-end c =
+    sym c.requires.facts.target_long
+
+pub naming-revs-requires : goal.naming-revs-requires
+naming-revs-requires c =
+    let g = c.requires in
+    let r = g.store.revocations.digests.room in
+    let l = g.facts.target_long in
+    let d = g.store.delegations.digests.room in
+    let k = c.in_nodes-dels.ensures.long in
+    (omega arith, omega arith, omega arith)
+
+pub slice_bounds-choose-end : goal.slice_bounds-choose-end
+slice_bounds-choose-end c = sym c.requires.store.delegations.digests.long
+
+pub choose-a-requires : goal.choose-a-requires
+choose-a-requires c =
+    let g = c.requires in
+    let d = g.store.delegations.digests.room in
+    let k = c.in_nodes-dels.ensures.long in
+    (g.store.delegations.digests, omega arith, omega arith)
+
+pub slice_bounds-choose-end-in-At-2 : goal.slice_bounds-choose-end-in-At-2
+slice_bounds-choose-end-in-At-2 c = sym c.requires.store.revocations.digests.long
+
+pub choose-b-requires : goal.choose-b-requires
+choose-b-requires c =
+    let g = c.requires in
+    let d = g.store.revocations.digests.room in
+    let k = c.naming-revs.ensures.long in
+    (g.store.revocations.digests, omega arith, omega arith)
+
+pub slice_bounds-write_both-end : goal.slice_bounds-write_both-end
+slice_bounds-write_both-end c = sym c.requires.store.delegations.digests.long
+
+pub slice_bounds-write_both-end-in-At : goal.slice_bounds-write_both-end-in-At
+slice_bounds-write_both-end-in-At c = sym c.requires.store.revocations.digests.long
+
+pub write_both-requires : goal.write_both-requires
+write_both-requires c =
+    let st = c.args.store in
+    let g = c.requires.store in (
+      stand delegation_limit st.delegations.digests st.delegations.count g.delegations.digests (omega arith) c.in_nodes-dels.result c.choose-a.result c.choose-a.ensures,
+      stand revocation_limit st.revocations.digests st.revocations.count g.revocations.digests (omega arith) c.naming-revs.result c.choose-b.result c.choose-b.ensures,
+    )
+
+pub returns-in-Refused : goal.returns-in-Refused
+returns-in-Refused c =
+    let s = c.args in
+    key_refused (λ w. ClosureAnswer (committed s.store) s.subject.now s.out.now (two.Refused w) s.out.now) (λ h. says.subject-length h) c.seek_key-asked.ensures c.in-Refused.is
+
+pub returns-in-Unheld : goal.returns-in-Unheld
+unfolding front joined
+returns-in-Unheld c =
+    let s = c.args in
+    let g = c.requires in
+    let a = key_unheld c.seek_key-asked.ensures c.in-Unheld.is in
+    says.answered a.long (no_closure s.store g.store s.subject.now a.absent) (omega arith)
+
+pub returns-in-At : goal.returns-in-At
+returns-in-At c =
+    let s = c.args in
+    let g = c.requires in
+    let a = key_at c.seek_key-asked.ensures c.in-At.is in
+    closure_answer s.store g.store s.evaluation.facts g.facts c.in-At.s.0 a.within c.nodes-nodes.result c.nodes-nodes.ensures
+    c.in_nodes-dels.result c.naming-revs.result c.in_nodes-dels.ensures c.naming-revs.ensures
+    c.choose-a.result c.choose-b.result c.choose-a.ensures c.choose-b.ensures
+    a.long a.is c.write_both.ensures.0 c.write_both.ensures.1

@@ -1,0 +1,46 @@
+-- `conveyed_power` meets its contract: what was sought settles the case, and what holds of the delegation at its place holds of its bytes.
+use mathlib.Core.Path.{sym, subst}
+use Rattle.store.specs.Store.{committed}
+use Rattle.answers.specs.Graph.{graph}
+use Rattle.answers.specs.Answers as says
+use Rattle.answers.proofs.Places.{table}
+use Rattle.rules.specs.Rules.{ConveyedIs}
+use Rattle.rules.specs.Rows.{level_of}
+use Rattle.rules.proofs.Stores.Places.{conveyed_bytes}
+use Rattle.coverage.specs.Places.{places}
+use Rattle.answers.specs.Answers.{ConveyedPower}
+use Rattle.answers.specs.declared.answer.Powered.TheVariants as powered
+use Rattle.answers.proofs.Cases.{conveyed_small, delegation_at_place, delegation_unheld, delegation_refused, not_held, is_held, with_is}
+use Rattle.powers.proofs.conveyed_power.Goals as goal
+
+pub conveyed_power-requires : goal.conveyed_power-requires
+conveyed_power-requires c =
+    let g = c.requires.0 in
+    let a = delegation_at_place c.requires.1 c.in-At.is in
+    (g.evaluation, rw g.facts.delegations a.within)
+
+pub level_of-requires : goal.level_of-requires
+level_of-requires c = conveyed_small (places c.args.evaluation.facts) c.conveyed_power.result c.conveyed_power.ensures
+
+pub returns-in-Refused : goal.returns-in-Refused
+returns-in-Refused c =
+    let s = c.args in
+    delegation_refused (λ w. ConveyedPower (committed s.store) s.digest.now (powered.Refused w)) says.digest-length c.requires.1 c.in-Refused.is
+
+pub returns-in-Unheld : goal.returns-in-Unheld
+returns-in-Unheld c =
+    let s = c.args in
+    let n = delegation_unheld c.requires.1 c.in-Unheld.is in
+    says.absent n.long (not_held s.store c.requires.0.store s.digest.now n)
+
+pub returns-in-At : goal.returns-in-At
+returns-in-At c =
+    let s = c.args in
+    let g = c.requires.0 in
+    let st = s.store in
+    let x = s.digest.now in
+    let a = delegation_at_place c.requires.1 c.in-At.is in
+    says.answered a.long (is_held st g.store x c.in-At.d a)
+    (subst (λ y. ConveyedIs (graph (committed st)) y (level_of c.conveyed_power.result)) (sym (with_is st g.store x c.in-At.d a))
+    (conveyed_bytes (table st g.store s.evaluation.facts g.facts) (rw g.facts.delegations a.within) c.conveyed_power.ensures))
+    c.level_of.ensures
