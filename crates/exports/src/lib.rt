@@ -1,6 +1,8 @@
 // The delegation payload's reader and writer, and the whole kernel on a script, for callers through C, the app's Rust among them.
 // keyline.h beside src/ is their declaration.
 // Each answers a refusal's number, or 0, and puts every other part of the answer behind a pointer of the caller's.
+#![tactic(auto)]
+
 ghost use Rattle.std.specs.Prelude.{◌≡◌, length};
 ghost use Rattle.codec.specs.Delegation.{decoded, citation_of, encode_answer, after_encode};
 ghost use Rattle.numbers.specs.Numbers.{decode_number, decode_beside, decode_power, decode_rank, encode_number, encode_beside, encode_written};

@@ -112,6 +112,8 @@ module _ (c e : Committed) (b : Built c) (f : Built e) (w : Within c e) where
   unfolding answer_to
   welcome (delegation d i p) (by_delegation {g = g} (delegates r) m) = welcome_delegation d i p g r m
   welcome (revocation d i x) (by_revocation {v = v} (revokes r) m) = welcome_revocation d i x v r m
+  welcome (delegation d i p) (by_revocation s m) = elim s [ ]
+  welcome (revocation d i x) (by_delegation s m) = elim s [ ]
 
 -- ## One after the other
 within_all : {c d e : Committed} → Within c d → Within d e → Within c e

@@ -11,7 +11,7 @@ use lib.ListN.{length, get_or, length-append, length-map}
 use Rattle.runs.specs.Bytes.{Bytes, eq_bytes}
 use Rattle.runs.specs.Members.{has, place, fresh, Distinct}
 use Rattle.tables.specs.Committed.{Delegation, Revocation, Committed, delegation_keys, revocation_keys, keys_of, keys_in, keys}
-use Rattle.runs.proofs.BoolLaws.{or, or_cases, or_either}
+use Rattle.runs.proofs.BoolLaws.{or_cases, or_either}
 use Rattle.runs.proofs.ByteLaws.{eq_true}
 use Rattle.runs.proofs.MemberLaws.{mem_has, has_mem, has_not, has-append, distinct_snoc, distinct_head, distinct_tail, within_le}
 use Rattle.runs.proofs.FreshLaws.{fresh_has, fresh_distinct, all_has, all_distinct}

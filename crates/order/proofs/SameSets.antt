@@ -26,7 +26,6 @@ use Rattle.runs.proofs.FreshLaws.{fresh_same, all_has, all_distinct}
 use Rattle.runs.proofs.AscentLaws.{lt_not_both}
 use Rattle.tables.specs.Committed.{Delegation, Revocation, Committed, nothing, no_delegation, no_revocation, delegation_digests, revocation_digests, delegation_with, revocation_with, delegation_keys, revocation_keys, keys_in, keys}
 use Rattle.tables.specs.Insertion.{seen_delegation, delegation_check, accepted_answer, payload_answer, keys_answer, delegation_from, revocation_check, revocation_settled, revocation_from}
-use Rattle.tables.specs.declared.answer.Answer.TheVariants.{Refused}
 use Rattle.lists.specs.Lists.{listing, names, from_to}
 use Rattle.lists.proofs.AreLists.{is_list}
 use Rattle.answers.specs.Graph.{graph, store}

@@ -8,7 +8,7 @@ use borrow.Rule.Slice.PartMut.{mid_of}
 use Rattle.keyline.specs.declared.refusal.Refusal.{Refusal}
 use Rattle.runs.specs.Bytes.{Bytes}
 use Rattle.wire.specs.Reply.{head_length}
-use Rattle.wire.specs.Request.{header_length, longest, other_limit, needs, Whole, Script, ended, next, Malformed, here, later, StepOf, whole, refused}
+use Rattle.wire.specs.Request.{header_length, longest, other_limit, Script, ended, next, Malformed, here, later, StepOf, whole, refused}
 use Rattle.script.specs.Run.{MeasuredAs}
 use Rattle.script.specs.Run as run
 use Rattle.wire.specs.declared.request.Step.{Step}

@@ -1,6 +1,6 @@
 -- What a script answers. The set c is what was inserted so far, and the evaluated set e is c as it was at the last evaluation. Each request's
 -- reply is what the call that it names answers on its arguments x, y, z and in its rooms p and q. proofs/Settled: two runs coincide.
-use Rattle.std.specs.Prelude.{ℕ, ◌+◌, ◌≤◌, ◌<◌, ◌≡◌, [], ◌++◌, eqb, length, take, drop, replicate}
+use Rattle.std.specs.Prelude.{ℕ, ◌≤◌, ◌<◌, ◌≡◌, [], ◌++◌, eqb, length, take, drop, replicate}
 use Rattle.keyline.specs.declared.refusal.Refusal.{Refusal}
 use Rattle.keyline.specs.declared.refusal.Refusal.TheVariants.{BadLength, SmallBuffer}
 use Rattle.runs.specs.Bytes.{Bytes}

@@ -16,14 +16,14 @@ use wire::request::{HEADER, Step};
 const SCRIPT_LIMIT: usize = 16777216;
 
 // How many bytes the replies of a script take.
-#[derive(Drop)]
+#[derive(Clone, Copy)]
 pub enum Measured {
     Needs(usize),
     Refused(Refusal),
 }
 
 // How many bytes of answers a script gave.
-#[derive(Drop)]
+#[derive(Clone, Copy)]
 pub enum Ran {
     Bytes(usize),
     Refused(Refusal),

@@ -7,7 +7,7 @@ use borrow.Rule.Slice.PartMut.{mid_of}
 use lib.ListN.{length, drop}
 use Rattle.runs.specs.Bytes.{Bytes}
 use Rattle.wire.specs.Operation.{is_known}
-use Rattle.wire.specs.Request.{header_length, request_of, length_of, needs, Whole, Bounded, StepOf, whole, Script, ended, next, NextOf, first_part, second_part, third_part}
+use Rattle.wire.specs.Request.{header_length, request_of, length_of, needs, Bounded, StepOf, whole, Script, ended, next, NextOf, first_part, second_part, third_part}
 use Rattle.wire.specs.declared.request.Request.{Request}
 use Rattle.wire.specs.declared.request.Step.TheVariants as step
 

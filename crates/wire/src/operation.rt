@@ -3,7 +3,7 @@ ghost use Rattle.std.specs.Prelude.{◌≡◌};
 ghost use Rattle.wire.specs.Operation.{change_of, of_state, of_evaluated, operation_of, is_known};
 
 // What gives another set.
-#[derive(Drop)]
+#[derive(Clone, Copy)]
 pub enum Change {
     New,
     InsertDelegation,
@@ -11,7 +11,7 @@ pub enum Change {
 }
 
 // What is asked of the set.
-#[derive(Drop)]
+#[derive(Clone, Copy)]
 pub enum OfState {
     Version,
     Len,
@@ -27,7 +27,7 @@ pub enum OfState {
 }
 
 // What is asked of the evaluated set.
-#[derive(Drop)]
+#[derive(Clone, Copy)]
 pub enum OfEvaluated {
     PositivePower,
     EffectivePower,
@@ -38,7 +38,7 @@ pub enum OfEvaluated {
     Closure,
 }
 
-#[derive(Drop)]
+#[derive(Clone, Copy)]
 pub enum Operation {
     Change(Change),
     Evaluate,

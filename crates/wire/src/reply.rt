@@ -9,7 +9,7 @@ use lookups::lookup::Contained;
 use lookups::put::Looked;
 use tables::answer::Answer;
 
-#[derive(Drop)]
+#[derive(Clone, Copy)]
 pub struct Reply {
     pub number: u8,
     pub first: usize,

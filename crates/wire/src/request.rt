@@ -10,7 +10,7 @@ use keyline::refusal::Refusal;
 
 pub const HEADER: usize = 10;
 
-#[derive(Drop)]
+#[derive(Clone, Copy)]
 pub struct Request {
     pub operation: Operation,
     pub first: usize,
@@ -21,7 +21,7 @@ pub struct Request {
 }
 
 // What is at the front of the rest of a script: a whole request with so many bytes, whose reply takes so many, or no request.
-#[derive(Drop)]
+#[derive(Clone, Copy)]
 pub enum Step {
     Whole(usize, usize),
     Refused(Refusal),

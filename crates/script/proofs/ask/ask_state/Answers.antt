@@ -1,0 +1,36 @@
+-- Each question is the call that it names.
+use Rattle.script.specs.Run as run
+use Rattle.script.proofs.ask.ask_state.Goals as goal
+
+pub returns-in-Version : goal.returns-in-Version
+returns-in-Version c = rw (c.in-Version.is, c.valued.ensures, c.version-n.ensures) run.version
+
+pub returns-in-Len : goal.returns-in-Len
+returns-in-Len c = rw (c.in-Len.is, c.valued-in-Len.ensures, c.len.ensures) run.len
+
+pub returns-in-IsEmpty : goal.returns-in-IsEmpty
+returns-in-IsEmpty c = rw (c.in-IsEmpty.is, c.flagged.ensures, c.is_empty.ensures) run.is_empty
+
+pub returns-in-ContainsDelegation : goal.returns-in-ContainsDelegation
+returns-in-ContainsDelegation c = rw (c.in-ContainsDelegation.is, c.contained.ensures, c.contains_delegation.ensures) run.contains_delegation
+
+pub returns-in-ContainsRevocation : goal.returns-in-ContainsRevocation
+returns-in-ContainsRevocation c = rw (c.in-ContainsRevocation.is, c.contained-in-ContainsRevocation.ensures, c.contains_revocation.ensures) run.contains_revocation
+
+pub returns-in-Delegation : goal.returns-in-Delegation
+returns-in-Delegation c = let e = c.delegation.ensures in rw (c.in-Delegation.is, c.looked.ensures, e.1, e.2) (run.delegation e.0)
+
+pub returns-in-Revocation : goal.returns-in-Revocation
+returns-in-Revocation c = let e = c.revocation.ensures in rw (c.in-Revocation.is, c.looked-in-Revocation.ensures, e.1, e.2) (run.revocation e.0)
+
+pub returns-in-Subjects : goal.returns-in-Subjects
+returns-in-Subjects c = let e = c.subjects.ensures in rw (c.in-Subjects.is, c.listed.ensures, e.1) (run.subjects e.0)
+
+pub returns-in-RevocationsOf : goal.returns-in-RevocationsOf
+returns-in-RevocationsOf c = let e = c.revocations_of.ensures in rw (c.in-RevocationsOf.is, c.listed-in-RevocationsOf.ensures, e.1) (run.lists_revocations e.0)
+
+pub returns-in-DelegationsTo : goal.returns-in-DelegationsTo
+returns-in-DelegationsTo c = let e = c.delegations_to.ensures in rw (c.in-DelegationsTo.is, c.listed-in-DelegationsTo.ensures, e.1) (run.lists_delegations e.0)
+
+pub returns-in-Certificates : goal.returns-in-Certificates
+returns-in-Certificates c = let e = c.certificates.ensures in rw (c.in-Certificates.is, c.both_listed.ensures, e.1) (run.certificates e.0)

@@ -1,0 +1,248 @@
+-- Request by request: each reply is put behind those before it. In the proof of a need, l is the loop as its turn began and q the request
+-- that was read in it.
+use Prim.Native.Nat.{◌-◌}
+use mathlib.Core.Path.{refl, sym, ap, ◌∙◌, subst}
+use native.Mathlib.Omega.{arith}
+use lib.ListN.{length, length-drop}
+use Rattle.tables.specs.Insertion.{is_added}
+use Rattle.wire.specs.Request.{Script}
+use Rattle.wire.specs.declared.operation.Operation.TheVariants as operation
+use Rattle.script.specs.Run as run
+use Rattle.script.proofs.Measuring.{rest_lent}
+use Rattle.script.proofs.Performing.{begin, bounds, asked, renewed, inserted, worked, asked_state, asked_evaluated, says, ending}
+use Rattle.script.proofs.run.perform.Goals as goal
+
+pub evaluate-evaluated-requires : goal.evaluate-evaluated-requires
+evaluate-evaluated-requires c = c.new-state.ensures.0
+
+pub loop-at-init : goal.loop-at-init
+loop-at-init c = begin c.new-state.ensures.0 c.new-state.ensures.1 c.evaluate-evaluated.ensures.0 c.evaluate-evaluated.ensures.1 c.requires
+
+pub slice_bounds-next_request-count : goal.slice_bounds-next_request-count
+slice_bounds-next_request-count c = let w = c.loop-at.invariant.within in omega arith
+
+pub slice_bounds-next_request-start : goal.slice_bounds-next_request-start
+slice_bounds-next_request-start c = let w = c.loop-at.invariant.within in omega arith
+
+pub slice_bounds-next_request-end : goal.slice_bounds-next_request-end
+slice_bounds-next_request-end c = let w = c.loop-at.invariant.within in omega arith
+
+pub overflow_sub-answers : goal.overflow_sub-answers
+overflow_sub-answers c = let r = c.loop-at.invariant.room in omega arith
+
+pub next_request-q-requires : goal.next_request-q-requires
+next_request-q-requires c = let l = c.loop-at in let s = c.args.script.now in let e = rest_lent s l.at l.invariant.within in (subst (λ z. Script z (length l.answers - l.done)) (sym e) l.invariant.todo, rw (e, length-drop l.at s) (omega (arith, c.loop-at-test.true)))
+
+pub overflow_add-at : goal.overflow_add-at
+overflow_add-at c = let l = c.loop-at in let q = c.next_request-q in let b = bounds l.invariant q.ensures in let u = b.script in let v = b.answers in let m = l.invariant.long in let g = c.well_formed.0 in let k = c.well_formed.1.0 in omega arith
+
+pub overflow_add-at-in-loop-at : goal.overflow_add-at-in-loop-at
+overflow_add-at-in-loop-at c = let l = c.loop-at in let q = c.next_request-q in let b = bounds l.invariant q.ensures in let u = b.script in let v = b.answers in let m = l.invariant.long in let g = c.well_formed.0 in let k = c.well_formed.1.0 in omega arith
+
+pub overflow_add-at-in-loop-at-2 : goal.overflow_add-at-in-loop-at-2
+overflow_add-at-in-loop-at-2 c = let l = c.loop-at in let q = c.next_request-q in let b = bounds l.invariant q.ensures in let u = b.script in let v = b.answers in let m = l.invariant.long in let g = c.well_formed.0 in let k = c.well_formed.1.0 in omega arith
+
+pub overflow_add-at-in-loop-at-3 : goal.overflow_add-at-in-loop-at-3
+overflow_add-at-in-loop-at-3 c = let l = c.loop-at in let q = c.next_request-q in let b = bounds l.invariant q.ensures in let u = b.script in let v = b.answers in let m = l.invariant.long in let g = c.well_formed.0 in let k = c.well_formed.1.0 in omega arith
+
+pub overflow_add-done : goal.overflow_add-done
+overflow_add-done c = let l = c.loop-at in let q = c.next_request-q in let b = bounds l.invariant q.ensures in let u = b.script in let v = b.answers in let m = l.invariant.long in let g = c.well_formed.0 in let k = c.well_formed.1.0 in omega arith
+
+pub overflow_add-done-in-loop-at : goal.overflow_add-done-in-loop-at
+overflow_add-done-in-loop-at c = let l = c.loop-at in let q = c.next_request-q in let b = bounds l.invariant q.ensures in let u = b.script in let v = b.answers in let m = l.invariant.long in let g = c.well_formed.0 in let k = c.well_formed.1.0 in omega arith
+
+pub overflow_add-done-in-loop-at-2 : goal.overflow_add-done-in-loop-at-2
+overflow_add-done-in-loop-at-2 c = let l = c.loop-at in let q = c.next_request-q in let b = bounds l.invariant q.ensures in let u = b.script in let v = b.answers in let m = l.invariant.long in let g = c.well_formed.0 in let k = c.well_formed.1.0 in omega arith
+
+pub slice_bounds-answer_done-count : goal.slice_bounds-answer_done-count
+slice_bounds-answer_done-count c = let l = c.loop-at in let q = c.next_request-q in let b = bounds l.invariant q.ensures in let u = b.script in let v = b.answers in omega arith
+
+pub slice_bounds-answer_done-start : goal.slice_bounds-answer_done-start
+slice_bounds-answer_done-start c = let l = c.loop-at in let q = c.next_request-q in let b = bounds l.invariant q.ensures in let u = b.script in let v = b.answers in omega arith
+
+pub slice_bounds-answer_done-end : goal.slice_bounds-answer_done-end
+slice_bounds-answer_done-end c = let l = c.loop-at in let q = c.next_request-q in let b = bounds l.invariant q.ensures in let u = b.script in let v = b.answers in omega arith
+
+pub answer_done-requires : goal.answer_done-requires
+answer_done-requires c = let l = c.loop-at in let q = c.next_request-q in let a = asked l.invariant q.ensures in (a.long, a.other)
+
+pub loop-at-smaller-in-New : goal.loop-at-smaller-in-New
+loop-at-smaller-in-New c = let l = c.loop-at in let q = c.next_request-q in let b = bounds l.invariant q.ensures in let u = b.script in let v = b.answers in omega arith
+
+pub loop-at-preserved-in-New : goal.loop-at-preserved-in-New
+loop-at-preserved-in-New c =
+    let l = c.loop-at in let q = c.next_request-q in let a = asked l.invariant q.ensures in
+    renewed l.invariant q.ensures (c.in-Change.is ∙ ap operation.Change c.in-New.is) c.new-state-in-New.ensures.0 c.new-state-in-New.ensures.1 (omega (arith, c.answers-1.given, a.long)) c.answer_done.ensures
+
+pub slice_bounds-insert_delegation-count : goal.slice_bounds-insert_delegation-count
+slice_bounds-insert_delegation-count c = let l = c.loop-at in let q = c.next_request-q in let b = bounds l.invariant q.ensures in let u = b.script in let v = b.answers in omega arith
+
+pub slice_bounds-insert_delegation-start : goal.slice_bounds-insert_delegation-start
+slice_bounds-insert_delegation-start c = let l = c.loop-at in let q = c.next_request-q in let b = bounds l.invariant q.ensures in let u = b.script in let v = b.answers in omega arith
+
+pub slice_bounds-insert_delegation-end : goal.slice_bounds-insert_delegation-end
+slice_bounds-insert_delegation-end c = let l = c.loop-at in let q = c.next_request-q in let b = bounds l.invariant q.ensures in let u = b.script in let v = b.answers in omega arith
+
+pub insert_delegation-r-requires : goal.insert_delegation-r-requires
+insert_delegation-r-requires c = let l = c.loop-at in let q = c.next_request-q in (l.invariant.good, q.ensures.is, q.ensures.within)
+
+pub slice_bounds-answer_inserted-count : goal.slice_bounds-answer_inserted-count
+slice_bounds-answer_inserted-count c = let l = c.loop-at in let q = c.next_request-q in let b = bounds l.invariant q.ensures in let u = b.script in let v = b.answers in omega arith
+
+pub slice_bounds-answer_inserted-start : goal.slice_bounds-answer_inserted-start
+slice_bounds-answer_inserted-start c = let l = c.loop-at in let q = c.next_request-q in let b = bounds l.invariant q.ensures in let u = b.script in let v = b.answers in omega arith
+
+pub slice_bounds-answer_inserted-end : goal.slice_bounds-answer_inserted-end
+slice_bounds-answer_inserted-end c = let l = c.loop-at in let q = c.next_request-q in let b = bounds l.invariant q.ensures in let u = b.script in let v = b.answers in omega arith
+
+pub answer_inserted-requires : goal.answer_inserted-requires
+answer_inserted-requires c = let l = c.loop-at in let q = c.next_request-q in let a = asked l.invariant q.ensures in (a.long, a.other)
+
+pub loop-at-smaller-then-is_added : goal.loop-at-smaller-then-is_added
+loop-at-smaller-then-is_added c = let l = c.loop-at in let q = c.next_request-q in let b = bounds l.invariant q.ensures in let u = b.script in let v = b.answers in omega arith
+
+pub loop-at-preserved-then-is_added : goal.loop-at-preserved-then-is_added
+loop-at-preserved-then-is_added c =
+    let l = c.loop-at in let q = c.next_request-q in let a = asked l.invariant q.ensures in let i = c.insert_delegation-r.ensures in
+    inserted l.invariant q.ensures run.insert_delegation i refl (c.in-Change.is ∙ ap operation.Change c.in-InsertDelegation.is) (omega (arith, c.answers-in-InsertDelegation-1.given, a.long)) c.answer_inserted.ensures
+
+pub loop-at-smaller-else-is_added : goal.loop-at-smaller-else-is_added
+loop-at-smaller-else-is_added c = let l = c.loop-at in let q = c.next_request-q in let b = bounds l.invariant q.ensures in let u = b.script in let v = b.answers in omega arith
+
+pub loop-at-preserved-else-is_added : goal.loop-at-preserved-else-is_added
+loop-at-preserved-else-is_added c =
+    let l = c.loop-at in let q = c.next_request-q in let a = asked l.invariant q.ensures in let i = c.insert_delegation-r.ensures in
+    inserted l.invariant q.ensures run.insert_delegation i (sym (i.kept (ap is_added (sym i.answer) ∙ sym c.is_added.ensures ∙ c.if-is_added.false))) (c.in-Change.is ∙ ap operation.Change c.in-InsertDelegation.is) (omega (arith, c.answers-in-InsertDelegation-1.given, a.long)) c.answer_inserted.ensures
+
+pub slice_bounds-insert_revocation-count : goal.slice_bounds-insert_revocation-count
+slice_bounds-insert_revocation-count c = let l = c.loop-at in let q = c.next_request-q in let b = bounds l.invariant q.ensures in let u = b.script in let v = b.answers in omega arith
+
+pub slice_bounds-insert_revocation-start : goal.slice_bounds-insert_revocation-start
+slice_bounds-insert_revocation-start c = let l = c.loop-at in let q = c.next_request-q in let b = bounds l.invariant q.ensures in let u = b.script in let v = b.answers in omega arith
+
+pub slice_bounds-insert_revocation-end : goal.slice_bounds-insert_revocation-end
+slice_bounds-insert_revocation-end c = let l = c.loop-at in let q = c.next_request-q in let b = bounds l.invariant q.ensures in let u = b.script in let v = b.answers in omega arith
+
+pub insert_revocation-r-requires : goal.insert_revocation-r-requires
+insert_revocation-r-requires c = let l = c.loop-at in let q = c.next_request-q in (l.invariant.good, q.ensures.is, q.ensures.within)
+
+pub slice_bounds-answer_inserted-count-in-InsertRevocation : goal.slice_bounds-answer_inserted-count-in-InsertRevocation
+slice_bounds-answer_inserted-count-in-InsertRevocation c = let l = c.loop-at in let q = c.next_request-q in let b = bounds l.invariant q.ensures in let u = b.script in let v = b.answers in omega arith
+
+pub slice_bounds-answer_inserted-start-in-InsertRevocation : goal.slice_bounds-answer_inserted-start-in-InsertRevocation
+slice_bounds-answer_inserted-start-in-InsertRevocation c = let l = c.loop-at in let q = c.next_request-q in let b = bounds l.invariant q.ensures in let u = b.script in let v = b.answers in omega arith
+
+pub slice_bounds-answer_inserted-end-in-InsertRevocation : goal.slice_bounds-answer_inserted-end-in-InsertRevocation
+slice_bounds-answer_inserted-end-in-InsertRevocation c = let l = c.loop-at in let q = c.next_request-q in let b = bounds l.invariant q.ensures in let u = b.script in let v = b.answers in omega arith
+
+pub answer_inserted-requires-in-InsertRevocation : goal.answer_inserted-requires-in-InsertRevocation
+answer_inserted-requires-in-InsertRevocation c = let l = c.loop-at in let q = c.next_request-q in let a = asked l.invariant q.ensures in (a.long, a.other)
+
+pub loop-at-smaller-then-is_added-2 : goal.loop-at-smaller-then-is_added-2
+loop-at-smaller-then-is_added-2 c = let l = c.loop-at in let q = c.next_request-q in let b = bounds l.invariant q.ensures in let u = b.script in let v = b.answers in omega arith
+
+pub loop-at-preserved-then-is_added-2 : goal.loop-at-preserved-then-is_added-2
+loop-at-preserved-then-is_added-2 c =
+    let l = c.loop-at in let q = c.next_request-q in let a = asked l.invariant q.ensures in let i = c.insert_revocation-r.ensures in
+    inserted l.invariant q.ensures run.insert_revocation i refl (c.in-Change.is ∙ ap operation.Change c.in-InsertRevocation.is) (omega (arith, c.answers-in-InsertRevocation-1.given, a.long)) c.answer_inserted-in-InsertRevocation.ensures
+
+pub loop-at-smaller-else-is_added-2 : goal.loop-at-smaller-else-is_added-2
+loop-at-smaller-else-is_added-2 c = let l = c.loop-at in let q = c.next_request-q in let b = bounds l.invariant q.ensures in let u = b.script in let v = b.answers in omega arith
+
+pub loop-at-preserved-else-is_added-2 : goal.loop-at-preserved-else-is_added-2
+loop-at-preserved-else-is_added-2 c =
+    let l = c.loop-at in let q = c.next_request-q in let a = asked l.invariant q.ensures in let i = c.insert_revocation-r.ensures in
+    inserted l.invariant q.ensures run.insert_revocation i (sym (i.kept (ap is_added (sym i.answer) ∙ sym c.is_added-in-InsertRevocation.ensures ∙ c.if-is_added-2.false))) (c.in-Change.is ∙ ap operation.Change c.in-InsertRevocation.is) (omega (arith, c.answers-in-InsertRevocation-1.given, a.long)) c.answer_inserted-in-InsertRevocation.ensures
+
+pub evaluate-evaluated-requires-in-Evaluate : goal.evaluate-evaluated-requires-in-Evaluate
+evaluate-evaluated-requires-in-Evaluate c = c.loop-at.invariant.good
+
+pub slice_bounds-answer_done-count-in-Evaluate : goal.slice_bounds-answer_done-count-in-Evaluate
+slice_bounds-answer_done-count-in-Evaluate c = let l = c.loop-at in let q = c.next_request-q in let b = bounds l.invariant q.ensures in let u = b.script in let v = b.answers in omega arith
+
+pub slice_bounds-answer_done-start-in-Evaluate : goal.slice_bounds-answer_done-start-in-Evaluate
+slice_bounds-answer_done-start-in-Evaluate c = let l = c.loop-at in let q = c.next_request-q in let b = bounds l.invariant q.ensures in let u = b.script in let v = b.answers in omega arith
+
+pub slice_bounds-answer_done-end-in-Evaluate : goal.slice_bounds-answer_done-end-in-Evaluate
+slice_bounds-answer_done-end-in-Evaluate c = let l = c.loop-at in let q = c.next_request-q in let b = bounds l.invariant q.ensures in let u = b.script in let v = b.answers in omega arith
+
+pub answer_done-requires-in-Evaluate : goal.answer_done-requires-in-Evaluate
+answer_done-requires-in-Evaluate c = let l = c.loop-at in let q = c.next_request-q in let a = asked l.invariant q.ensures in (a.long, a.other)
+
+pub loop-at-smaller-in-Evaluate : goal.loop-at-smaller-in-Evaluate
+loop-at-smaller-in-Evaluate c = let l = c.loop-at in let q = c.next_request-q in let b = bounds l.invariant q.ensures in let u = b.script in let v = b.answers in omega arith
+
+pub loop-at-preserved-in-Evaluate : goal.loop-at-preserved-in-Evaluate
+loop-at-preserved-in-Evaluate c =
+    let l = c.loop-at in let q = c.next_request-q in let a = asked l.invariant q.ensures in
+    worked l.invariant q.ensures c.in-Evaluate.is c.evaluate-evaluated-in-Evaluate.ensures.0 c.evaluate-evaluated-in-Evaluate.ensures.1 (omega (arith, c.answers-in-Evaluate-1.given, a.long)) c.answer_done-in-Evaluate.ensures
+
+pub slice_bounds-answer_state-count : goal.slice_bounds-answer_state-count
+slice_bounds-answer_state-count c = let l = c.loop-at in let q = c.next_request-q in let b = bounds l.invariant q.ensures in let u = b.script in let v = b.answers in omega arith
+
+pub slice_bounds-answer_state-start : goal.slice_bounds-answer_state-start
+slice_bounds-answer_state-start c = let l = c.loop-at in let q = c.next_request-q in let b = bounds l.invariant q.ensures in let u = b.script in let v = b.answers in omega arith
+
+pub slice_bounds-answer_state-end : goal.slice_bounds-answer_state-end
+slice_bounds-answer_state-end c = let l = c.loop-at in let q = c.next_request-q in let b = bounds l.invariant q.ensures in let u = b.script in let v = b.answers in omega arith
+
+pub slice_bounds-answer_state-count-in-OfState : goal.slice_bounds-answer_state-count-in-OfState
+slice_bounds-answer_state-count-in-OfState c = let l = c.loop-at in let q = c.next_request-q in let b = bounds l.invariant q.ensures in let u = b.script in let v = b.answers in omega arith
+
+pub slice_bounds-answer_state-start-in-OfState : goal.slice_bounds-answer_state-start-in-OfState
+slice_bounds-answer_state-start-in-OfState c = let l = c.loop-at in let q = c.next_request-q in let b = bounds l.invariant q.ensures in let u = b.script in let v = b.answers in omega arith
+
+pub slice_bounds-answer_state-end-in-OfState : goal.slice_bounds-answer_state-end-in-OfState
+slice_bounds-answer_state-end-in-OfState c = let l = c.loop-at in let q = c.next_request-q in let b = bounds l.invariant q.ensures in let u = b.script in let v = b.answers in omega arith
+
+pub answer_state-requires : goal.answer_state-requires
+answer_state-requires c = let l = c.loop-at in let q = c.next_request-q in (l.invariant.good, asked l.invariant q.ensures)
+
+pub loop-at-smaller-in-OfState : goal.loop-at-smaller-in-OfState
+loop-at-smaller-in-OfState c = let l = c.loop-at in let q = c.next_request-q in let b = bounds l.invariant q.ensures in let u = b.script in let v = b.answers in omega arith
+
+pub loop-at-preserved-in-OfState : goal.loop-at-preserved-in-OfState
+loop-at-preserved-in-OfState c =
+    let l = c.loop-at in let q = c.next_request-q in let a = asked l.invariant q.ensures in
+    asked_state l.invariant q.ensures c.in-OfState.is (omega (arith, c.answers-in-OfState-1.given, a.long)) c.answer_state.ensures
+
+pub slice_bounds-answer_evaluated-count : goal.slice_bounds-answer_evaluated-count
+slice_bounds-answer_evaluated-count c = let l = c.loop-at in let q = c.next_request-q in let b = bounds l.invariant q.ensures in let u = b.script in let v = b.answers in omega arith
+
+pub slice_bounds-answer_evaluated-start : goal.slice_bounds-answer_evaluated-start
+slice_bounds-answer_evaluated-start c = let l = c.loop-at in let q = c.next_request-q in let b = bounds l.invariant q.ensures in let u = b.script in let v = b.answers in omega arith
+
+pub slice_bounds-answer_evaluated-end : goal.slice_bounds-answer_evaluated-end
+slice_bounds-answer_evaluated-end c = let l = c.loop-at in let q = c.next_request-q in let b = bounds l.invariant q.ensures in let u = b.script in let v = b.answers in omega arith
+
+pub slice_bounds-answer_evaluated-count-in-OfEvaluated : goal.slice_bounds-answer_evaluated-count-in-OfEvaluated
+slice_bounds-answer_evaluated-count-in-OfEvaluated c = let l = c.loop-at in let q = c.next_request-q in let b = bounds l.invariant q.ensures in let u = b.script in let v = b.answers in omega arith
+
+pub slice_bounds-answer_evaluated-start-in-OfEvaluated : goal.slice_bounds-answer_evaluated-start-in-OfEvaluated
+slice_bounds-answer_evaluated-start-in-OfEvaluated c = let l = c.loop-at in let q = c.next_request-q in let b = bounds l.invariant q.ensures in let u = b.script in let v = b.answers in omega arith
+
+pub slice_bounds-answer_evaluated-end-in-OfEvaluated : goal.slice_bounds-answer_evaluated-end-in-OfEvaluated
+slice_bounds-answer_evaluated-end-in-OfEvaluated c = let l = c.loop-at in let q = c.next_request-q in let b = bounds l.invariant q.ensures in let u = b.script in let v = b.answers in omega arith
+
+pub answer_evaluated-requires : goal.answer_evaluated-requires
+answer_evaluated-requires c = let l = c.loop-at in let q = c.next_request-q in (l.invariant.worked_out, asked l.invariant q.ensures)
+
+pub loop-at-smaller-in-OfEvaluated : goal.loop-at-smaller-in-OfEvaluated
+loop-at-smaller-in-OfEvaluated c = let l = c.loop-at in let q = c.next_request-q in let b = bounds l.invariant q.ensures in let u = b.script in let v = b.answers in omega arith
+
+pub loop-at-preserved-in-OfEvaluated : goal.loop-at-preserved-in-OfEvaluated
+loop-at-preserved-in-OfEvaluated c =
+    let l = c.loop-at in let q = c.next_request-q in let a = asked l.invariant q.ensures in
+    asked_evaluated l.invariant q.ensures c.in-OfEvaluated.is (omega (arith, c.answers-in-OfEvaluated-1.given, a.long)) c.answer_evaluated.ensures
+
+pub loop-at-smaller : goal.loop-at-smaller
+loop-at-smaller c = let l = c.loop-at in let q = c.next_request-q in let b = bounds l.invariant q.ensures in let u = b.script in let v = b.answers in omega arith
+
+pub loop-at-preserved : goal.loop-at-preserved
+loop-at-preserved c = absurd (says c.next_request-q.ensures c.in-Unknown.is)
+
+pub shape_of-answers : goal.shape_of-answers
+shape_of-answers c = c.loop-at.invariant.long
+
+pub returns : goal.returns
+returns c = ending c.loop-at.invariant c.loop-at-test.false
