@@ -1,7 +1,6 @@
 // From a line to a statement. A line whose second word is `:` is a certificate; every other line is a question, told by its first words.
 use crate::statement;
 use crate::statement::{Expected, Kind, Question, Statement};
-use check::same;
 use text::words::Words;
 use text::{name, words};
 
@@ -120,7 +119,7 @@ fn questioned(text: &[u8], w: Words, q: Question, first: usize, names: usize) ->
     )
 }
 
-#[derive(Drop)]
+#[derive(Clone, Copy)]
 enum Form {
     Unknown,
     // The question, the place of its first name, and how many names it has.
@@ -176,7 +175,7 @@ fn asked_list(word: &[u8], then: &[u8]) -> Form {
 }
 
 // Which words are a statement's names.
-#[derive(Drop)]
+#[derive(Clone, Copy)]
 struct Places(usize, usize, usize, usize);
 
 // The statement with its names, or why one of them is none.
@@ -203,4 +202,9 @@ fn named(text: &[u8], w: Words, kind: Kind, wanted: Expected, at: Places, level:
 
 fn is_short(word: &[u8]) -> bool {
     word.len() <= name::NAME_LENGTH
+}
+
+// Whether the word is this one.
+fn same(word: &[u8], other: &[u8]) -> bool {
+    word == other
 }

@@ -2,7 +2,7 @@
 // line, and all zeros where the line has fewer.
 use keyline::limits::KEY_LENGTH;
 
-#[derive(Drop)]
+#[derive(Clone, Copy)]
 pub enum Kind {
     Nothing,
     // Digest, issuer, audience, subject, and the level's byte.
@@ -13,7 +13,7 @@ pub enum Kind {
     Wrong(Expected),
 }
 
-#[derive(Drop)]
+#[derive(Clone, Copy)]
 pub enum Question {
     Members,
     Power,
@@ -30,7 +30,7 @@ pub enum Question {
 }
 
 // What a wrong line ought to have had.
-#[derive(Drop)]
+#[derive(Clone, Copy)]
 pub enum Expected {
     ShortLine,
     PlainBytes,
@@ -44,7 +44,7 @@ pub enum Expected {
     Asked(Question),
 }
 
-#[derive(Drop)]
+#[derive(Clone, Copy)]
 pub struct Statement {
     pub kind: Kind,
     pub first: [u8; KEY_LENGTH],

@@ -4,7 +4,7 @@
 // The longest statement, a delegation, has eight words; a line with more is wrong whatever they are.
 pub const WORD_LIMIT: usize = 12;
 
-#[derive(Drop)]
+#[derive(Clone, Copy)]
 pub struct Words {
     // Where each word begins, and where it ends.
     pub from: [usize; WORD_LIMIT],
