@@ -1,5 +1,10 @@
 // The command for people: reads certificates and questions, a line for each, from the file that an argument names or from standard input,
 // and answers each question about the store as it stands at that line. With --plain as its first argument it writes one fact a line.
+#![tactic(auto)]
+
+use std::env::{Env, FillError};
+use std::fs;
+
 mod certificate;
 mod expected;
 mod graph;
@@ -11,43 +16,49 @@ mod reader;
 mod say;
 mod show;
 
-use libc::STDIN_FILENO;
-
-fn main() {
-    if is_first(b"--help") {
+fn main(rt: HostRuntime) -> std::io::Result<()> {
+    if is_first(&rt, b"--help") {
         help();
-        return;
+        return Ok(());
     }
-    let plain = is_first(b"--plain");
+    let plain = is_first(&rt, b"--plain");
     let at = if plain { 2 } else { 1 };
-    if os::arg_count() <= at {
-        reader::run(STDIN_FILENO, plain);
-        return;
+    if !is_given(&rt, at) {
+        reader::run(&rt, &mut rt.reader(), plain);
+        return Ok(());
     }
-    if os::arg_count() > at + 1 {
+    if is_given(&rt, at + 1) {
         help();
-        return;
+        return Ok(());
     }
-    let mut path = io::buffer();
-    let n = os::arg(at, &mut path);
-    if os::errno() != 0 {
-        os::fail(b"the file's name");
-        return;
+    let mut name = io::buffer();
+    let Ok(n) = rt.arg(at, &mut name) else {
+        return eprintln!(rt; "the file's name is too long");
+    };
+    let Ok(path) = str::from_utf8(&name[..n]) else {
+        return eprintln!(rt; "the file's name is not UTF-8");
+    };
+    match fs::open(&rt, path) {
+        Ok(mut file) => {
+            reader::run(&rt, &mut file, plain);
+            Ok(())
+        }
+        Err(e) => eprintln!(rt; "{path}: {e}"),
     }
-    let fd = os::open_read(&path[..n]);
-    if fd < 0 {
-        os::fail(&path[..n]);
-        return;
-    }
-    reader::run(fd, plain);
-    libc::close(fd);
 }
 
 // Whether the first argument is the word. One that does not fit the buffer is another.
-fn is_first(word: &[u8]) -> bool {
+fn is_first<E: Env>(rt: &E, word: &[u8]) -> bool {
     let mut argument = [0u8; 8];
-    let n = os::arg(1, &mut argument);
-    check::same(&argument[..n], word)
+    match rt.arg(1, &mut argument) {
+        Ok(n) => &argument[..n] == word,
+        Err(_) => false,
+    }
+}
+
+// Whether there is an argument of this number, counted from 1.
+fn is_given<E: Env>(rt: &E, i: usize) -> bool {
+    !matches!(rt.arg(i, &mut [0u8; 1]), Err(FillError::NotPresent))
 }
 
 fn help() {

@@ -5,13 +5,16 @@ ghost use Rattle.keyline_memory.specs.State.{GoodState};
 
 use crate::{certificate, expected, question, say};
 use keyline_memory::state::State;
-use libc::STDERR_FILENO;
 use notation::statement;
 use notation::statement::{Expected, Kind, Question, Statement};
+use std::io::Read;
 use text::line::Line;
 use text::{line, words};
 
-#[derive(Drop)]
+// The descriptor of standard error.
+const STDERR_FILENO: i32 = 2;
+
+#[derive(Clone, Copy)]
 struct Reader {
     state: State,
     line: Line,
@@ -38,11 +41,11 @@ fn new(plain: bool) -> Reader
 }
 
 // A proved loop has to end, and nothing says that a file does. So the loop counts its turns down, from a number that no run uses up.
-pub(crate) fn run(fd: i32, plain: bool) {
+pub(crate) fn run<E: Eprint, R: Read>(rt: &E, input: &mut R, plain: bool) {
     let mut s = new(plain);
     let mut turns = u64::MAX;
     while turns > 0 {
-        s = block(s, fd);
+        s = block(s, rt, input);
         turns = left(turns - 1, s.ended);
     }
     finish(s);
@@ -58,21 +61,20 @@ fn left(turns: u64, ended: bool) -> u64
 }
 
 // One read, and what it gave.
-fn block(s: Reader, fd: i32) -> Reader
+fn block<E: Eprint, R: Read>(s: Reader, rt: &E, input: &mut R) -> Reader
     requires { GoodState s.state }
     ensures { GoodState result.state }
 {
     let mut buffer = io::buffer();
-    let got = libc::read(fd, &mut buffer);
-    if got < 0 {
-        os::fail(b"reading");
-        return end(s);
+    match input.read(&mut buffer) {
+        Ok(0) => end(s),
+        Ok(n) => lines(s, &buffer[..n]),
+        Err(e) => {
+            // Where that can't be said either, there is nobody to hear it.
+            let _ = eprintln!(rt; "reading: {e}");
+            end(s)
+        }
     }
-    if got == 0 {
-        return end(s);
-    }
-    let n = io::count(got, &buffer);
-    lines(s, &buffer[..n])
 }
 
 fn end(mut s: Reader) -> Reader

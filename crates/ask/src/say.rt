@@ -2,8 +2,10 @@
 use answers::answer::Powered;
 use keyline::limits::KEY_LIMIT;
 use keyline::refusal::Refusal;
-use libc::STDOUT_FILENO;
 use power_levels::power::Power;
+
+// The descriptor of standard output.
+const STDOUT_FILENO: i32 = 1;
 
 pub(crate) fn text(word: &[u8]) {
     io::write_all(STDOUT_FILENO, word);

@@ -5,7 +5,7 @@ use crate::make;
 use crate::make::Given;
 use keyline_memory::state::State;
 
-#[derive(Drop)]
+#[derive(Clone, Copy)]
 pub(crate) enum Kind {
     // Key 0 lets each other key read: n delegations have n + 1 keys.
     Star,
@@ -50,7 +50,7 @@ fn ring(d: u8) -> Given {
 }
 
 // A delegation, or a revocation by key 0 of the digest that it holds.
-#[derive(Drop)]
+#[derive(Clone, Copy)]
 enum Made {
     Delegation(Given),
     Revocation(u8),

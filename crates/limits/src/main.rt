@@ -1,5 +1,7 @@
 // Document 01's "Run as tests" for the store, one line a case: the limits of the tables, and every call's lengths and buffers.
 // The file stdout beside src/ says what each line must be; it is written from document 01, not from a run.
+#![tactic(auto)]
+
 mod asked;
 mod buffers;
 mod fill;

@@ -8,7 +8,7 @@ use keyline_memory::state::{Inserted, State};
 pub(crate) const TOO_LONG: usize = 33;
 
 // A delegation by numbers; its power is the byte, and a citation of 0 is none.
-#[derive(Drop)]
+#[derive(Clone, Copy)]
 pub(crate) struct Given {
     pub(crate) digest: u8,
     pub(crate) issuer: u8,

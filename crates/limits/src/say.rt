@@ -2,12 +2,14 @@
 use answers::answer::{Liveness, Powered, Stood};
 use keyline::limits::DIGEST_LENGTH;
 use keyline::refusal::Refusal;
-use libc::STDOUT_FILENO;
 use lists::write::{BothListed, Listed};
 use lookups::lookup::Contained;
 use lookups::put::Looked;
 use power_levels::power::Power;
 use tables::answer::Answer;
+
+// The descriptor of standard output.
+const STDOUT_FILENO: i32 = 1;
 
 // What a buffer is filled with before a call; no key, no digest and no power has such a byte.
 pub(crate) const BEFORE: u8 = 255;
@@ -172,6 +174,6 @@ pub(crate) fn touched(out: &[u8]) {
 pub(crate) fn parts(issuer: &[u8], part: &[u8], wanted: &[u8]) {
     if differ(issuer, BEFORE) != 0 {
         items(b", issuer", issuer, 1);
-        byte(b", as given ", check::same(part, wanted) as u8);
+        byte(b", as given ", (part == wanted) as u8);
     }
 }

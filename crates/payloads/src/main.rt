@@ -1,5 +1,7 @@
 // Document 01's "Run as tests" for delegation payloads, one line a case: what the reader finds, what the writer answers and leaves.
 // The file stdout beside src/ says what each line must be; it is written from document 01, not from a run.
+#![tactic(auto)]
+
 mod print;
 mod reading;
 mod sample;

@@ -1,6 +1,8 @@
 // Words and numbers to standard output.
 use keyline::refusal::Refusal;
-use libc::STDOUT_FILENO;
+
+// The descriptor of standard output.
+const STDOUT_FILENO: i32 = 1;
 
 pub(crate) fn text(word: &[u8]) {
     io::write_all(STDOUT_FILENO, word);

@@ -41,7 +41,7 @@ fn written(
             crate::print::number(b": wrote ", n);
             let wanted = crate::sample::cut(s, 0, n);
             let front = crate::sample::cut(out, 0, n);
-            crate::print::byte(b", as the sample ", check::same(front, wanted) as u8);
+            crate::print::byte(b", as the sample ", (front == wanted) as u8);
         }
     }
     crate::print::number(b", left ", crate::sample::count(out, BEFORE));

@@ -151,7 +151,7 @@ fn is_behind(before: &[u8], j: usize) -> bool {
     fields::number(fields::field(before, 1)) < j
 }
 
-#[derive(Drop)]
+#[derive(Clone, Copy)]
 struct Said {
     version: bool,
     len: bool,

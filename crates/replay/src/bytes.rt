@@ -42,7 +42,7 @@ pub(crate) fn items(list: &[u8], i: usize, n: usize) -> &[u8] {
 pub(crate) fn among(list: &[u8], run: &[u8]) -> bool {
     let mut i = 0;
     while i < list.len() / KEY_LENGTH {
-        if check::same(item(list, i), run) {
+        if item(list, i) == run {
             return true;
         }
         i += 1;

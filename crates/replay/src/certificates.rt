@@ -60,7 +60,7 @@ fn standing_in(live: &[u8], named: &[u8]) -> u8 {
 }
 
 // What the store answered about a digest, each answer held against the line.
-#[derive(Drop)]
+#[derive(Clone, Copy)]
 struct Stored {
     listed: bool,
     contained: bool,
@@ -69,7 +69,7 @@ struct Stored {
 }
 
 // What the evaluation answered.
-#[derive(Drop)]
+#[derive(Clone, Copy)]
 struct Weighed {
     live: bool,
     standing: bool,
@@ -170,7 +170,7 @@ fn kept(s: State, f: Frame, line: &[u8], all: &[u8], d: usize, digest: &[u8]) ->
     let other = contained_as(s.contains_revocation(digest), among);
     let lookup = looks_up(s, digest, line);
     Stored {
-        listed: check::same(bytes::item(delegations(all, f), d), digest),
+        listed: bytes::item(delegations(all, f), d) == digest,
         contained,
         other,
         lookup,
@@ -231,7 +231,7 @@ fn is_hex_in(text: &[u8], wanted: &[u8], room: &mut [u8]) -> bool {
     if !fields::hex(text, room) {
         return false;
     }
-    check::same(room, wanted)
+    &*room == wanted
 }
 
 // Whether the marks are the revocations that name the digest.
@@ -281,7 +281,7 @@ fn kept_revocation(s: State, f: Frame, line: &[u8], all: &[u8], r: usize, digest
     let other = contained_as(s.contains_delegation(digest), among);
     let lookup = looks_up_revocation(s, digest, line);
     Stored {
-        listed: check::same(bytes::item(revocations(all, f), r), digest),
+        listed: bytes::item(revocations(all, f), r) == digest,
         contained,
         other,
         lookup,

@@ -19,7 +19,7 @@ pub(crate) const MOST_REVOCATIONS: usize = 64;
 pub(crate) const NONE: usize = usize::MAX;
 
 // Where the parts of a block lie among its lines, and how many keys it asks about.
-#[derive(Drop)]
+#[derive(Clone, Copy)]
 pub(crate) struct Frame {
     // the number of the line `a`
     pub at: u64,

@@ -1,8 +1,8 @@
-// Lines of standard input, of any number, through one buffer. A line that is longer than its buffer is cut there, which no line of the format
+// Lines of what is read, of any number, through one buffer. A line that is longer than its buffer is cut there, which no line of the format
 // survives as well-formed.
-use libc::STDIN_FILENO;
+use std::io::Read;
 
-#[derive(Drop)]
+#[derive(Clone, Copy)]
 pub(crate) struct Input {
     // the part of the buffer that is not used up
     at: usize,
@@ -25,21 +25,26 @@ pub(crate) fn new() -> Input {
 }
 
 // The next line, without its end, at the front of out.
-pub(crate) fn next(space: &mut [u8], out: &mut [u8], before: Input) -> Input {
+pub(crate) fn next<R: Read>(
+    reader: &mut R,
+    space: &mut [u8],
+    out: &mut [u8],
+    before: Input,
+) -> std::io::Result<Input> {
     let mut i = cleared(before);
     let mut turns = u64::MAX;
     while turns > 0 {
-        i = filled(space, i);
+        i = filled(reader, space, i)?;
         if i.whole {
-            return i;
+            return Ok(i);
         }
         i = piece(space, out, i);
         if i.whole {
-            return i;
+            return Ok(i);
         }
         turns -= 1;
     }
-    i
+    Ok(i)
 }
 
 fn cleared(i: Input) -> Input {
@@ -53,19 +58,18 @@ fn cleared(i: Input) -> Input {
 }
 
 // Reads where the buffer is used up. Where nothing is left, what there is of a line is the last one.
-fn filled(space: &mut [u8], i: Input) -> Input {
+fn filled<R: Read>(reader: &mut R, space: &mut [u8], i: Input) -> std::io::Result<Input> {
     if i.at < i.end {
-        return i;
+        return Ok(i);
     }
-    let got = libc::read(STDIN_FILENO, space);
-    let n = io::count(got, space);
-    Input {
+    let n = reader.read(space)?;
+    Ok(Input {
         at: 0,
         end: n,
         length: i.length,
         whole: n == 0,
         ended: (n == 0) & (i.length == 0),
-    }
+    })
 }
 
 // Moves what the buffer has of the line.

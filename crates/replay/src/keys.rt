@@ -232,7 +232,7 @@ fn is_member(on: bool, wanted: &[u8], found: &[u8], letter: u8, power: u8) -> bo
     if !on {
         return true;
     }
-    check::same(wanted, found) & (letter == power)
+    (wanted == found) & (letter == power)
 }
 
 // Whether the closure is the marked delegations, then the marked revocations.

@@ -37,7 +37,7 @@ pub(crate) fn marked(text: &[u8], all: &[u8], list: &[u8], n: usize) -> bool {
 
 fn is_next(on: bool, wanted: &[u8], found: &[u8]) -> bool {
     if on {
-        return check::same(wanted, found);
+        return wanted == found;
     }
     true
 }

@@ -90,7 +90,7 @@ fn cites(line: &[u8], payload: &[u8]) -> bool {
     let text = fields::field(line, 4);
     let mut wanted = [0u8; DIGEST_LENGTH];
     if fields::hex(text, &mut wanted) {
-        return check::same(citation, &wanted);
+        return citation == wanted.as_slice();
     }
     citation.len() == 0
 }

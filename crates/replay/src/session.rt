@@ -26,7 +26,7 @@ pub(crate) const REVOCATION: u8 = 3;
 
 pub(crate) const ANSWERS: u8 = 4;
 
-#[derive(Drop)]
+#[derive(Clone, Copy)]
 pub(crate) struct Session {
     pub tally: Tally,
     mode: u8,
@@ -87,7 +87,7 @@ pub(crate) fn read(s: Session, line: &[u8], text: &mut [u8]) -> Session {
 
 // A line between a and z. The next store ends a block that was left open, which is malformed.
 fn inside(t: Tally, lines: usize, line: &[u8], text: &mut [u8]) -> Session {
-    if check::same(line, b"z") {
+    if line == b"z".as_slice() {
         return made(t, STORE, lines, ANSWERS);
     }
     if bytes::at(line, 0) == b's' {

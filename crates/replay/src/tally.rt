@@ -1,7 +1,9 @@
 // What was counted so far, and what is said about it. Only the first difference is written out; every one is counted.
-use libc::STDOUT_FILENO;
 
-#[derive(Drop)]
+// The descriptor of standard output.
+const STDOUT_FILENO: i32 = 1;
+
+#[derive(Clone, Copy)]
 pub(crate) struct Tally {
     // the line that is read, counted from 1
     pub line: u64,

@@ -9,7 +9,7 @@ use keyline_memory::state;
 use keyline_memory::state::{Inserted, State};
 use tables::answer::Answer;
 
-#[derive(Drop)]
+#[derive(Clone, Copy)]
 pub(crate) struct Turn {
     pub state: State,
     pub session: Session,
