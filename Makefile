@@ -2,12 +2,12 @@
 
 .PHONY: test run ask pictures oracle documents exports linked host compare bench
 
-# The archive is for x86-64. On another processor the host side calls it through the kit's emulator, which is some ten times slower, so
-# `compare` has fewer questions there; and what is timed there is not the archive but its LLVM module, compiled for that processor
-# (host/emulated/README.md).
+# The archive is for x86-64, and so is today's kit. An older one had an emulator for other processors: there the host side called the archive
+# through it, some ten times slower, so `compare` has fewer questions there; and what was timed there was not the archive but its LLVM module,
+# compiled for that processor (host/emulated/README.md, which stops today with a message).
 ifeq ($(shell uname -m),x86_64)
-LINKED := $(CURDIR)/target/staticlib
-TIMED := $(CURDIR)/target/staticlib
+LINKED := $(CURDIR)/crates/exports/out
+TIMED := $(CURDIR)/crates/exports/out
 PAYLOADS := --count 1000000
 STORES :=
 else
@@ -21,7 +21,6 @@ CARGO := cd host && SALTBOBBIN_STATICLIB=$(LINKED) cargo
 # The tests: the documents are the ones we work from, and the gate of the proofs with the oracle and what is run on top of them (.ci/gate). Its
 # last line is 'N passed, 0 failed'.
 test: documents
-	rt fmt --check
 	.ci/gate
 
 # The main job: a building firm's certificates and questions, put to the proved kernel.
@@ -30,7 +29,7 @@ run: ask
 
 # Proves and builds the command that ./keyline runs.
 ask:
-	rt check ask
+	cd crates/ask && rt run -- --help </dev/null >/dev/null
 
 # The authority graphs of some examples, as pictures in docs/pictures (Graphviz from the system; it says what to install where it is not there).
 pictures: ask
@@ -44,13 +43,13 @@ oracle:
 documents:
 	cd docs && sha256sum --check --quiet CHECKSUMS
 
-# The proved library as an archive for C and Rust: target/staticlib/libexports.a.
+# The proved library as an archive for C and Rust: crates/exports/out/libexports.a.
 exports:
-	rt staticlib exports
+	cd crates/exports && rt lib
 
 # What the host side links: the archive itself, or on another processor the bridge to it.
 linked: exports
-ifneq ($(LINKED),$(CURDIR)/target/staticlib)
+ifneq ($(LINKED),$(CURDIR)/crates/exports/out)
 	host/emulated/build
 endif
 
@@ -65,7 +64,7 @@ compare: linked
 
 # Both sides timed in one run; whole stores twice, with the published Rust over hashed maps and over ordered ones.
 bench: exports
-ifneq ($(TIMED),$(CURDIR)/target/staticlib)
+ifneq ($(TIMED),$(CURDIR)/crates/exports/out)
 	host/emulated/module
 endif
 	cd host && SALTBOBBIN_STATICLIB=$(TIMED) cargo run --offline --quiet --release --bin bench

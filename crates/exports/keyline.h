@@ -1,6 +1,6 @@
 /* keyline.h: the delegation payload's reader and writer, and the whole kernel on a script, for C and for Rust through C.
  *
- * The functions are in libexports.a (`rt staticlib exports`), for programs on x86-64 Linux. Each is proved to meet the contract in
+ * The functions are in libexports.a (`make exports`), for programs on x86-64 Linux. Each is proved to meet the contract in
  * src/lib.rt, which says on every input what it answers and what it leaves behind every pointer. Nothing checks this file against that
  * source, and nothing checks a caller: a caller that is not Rattle must pass what the parameters' types say. No function asks for more
  * than that: any bytes and any lengths may be handed over, and a bad input is refused.

@@ -4,7 +4,7 @@ use std::{
     path::{Path, PathBuf},
 };
 
-/// The variable that names another folder for the archive than the repository's target/staticlib.
+/// The variable that names another folder for the archive than the repository's crates/exports/out.
 const FOLDER: &str = "SALTBOBBIN_STATICLIB";
 
 fn main() {
@@ -23,7 +23,7 @@ fn main() {
     println!("cargo::rerun-if-changed={}", archive.display());
     if !archive.is_file() {
         println!(
-            "cargo::error=There is no {}: run `make exports` (or `rt staticlib exports`) in the repository, \
+            "cargo::error=There is no {}: run `make exports` (or `rt lib` in crates/exports) in the repository, \
              or set {FOLDER} to the folder that has it.",
             archive.display()
         );
@@ -35,11 +35,11 @@ fn main() {
     println!("cargo::rustc-env={FOLDER}={}", folder.display());
 }
 
-/// host/saltbobbin stands in the repository, and `rt staticlib` writes to its target/staticlib.
+/// host/saltbobbin stands in the repository, and `rt lib` in its crates/exports writes to out/ there.
 fn default_folder() -> PathBuf {
     let package = variable("CARGO_MANIFEST_DIR");
     let repository = Path::new(&package).ancestors().nth(2).expect("two folders up");
-    repository.join("target/staticlib")
+    repository.join("crates/exports/out")
 }
 
 fn target(what: &str) -> String {

@@ -14,9 +14,9 @@ use std::{
 
 /// crates/exports of the repository that the archive is from, or else of this one.
 fn exports() -> PathBuf {
-    let of_archive = Path::new(env!("SALTBOBBIN_STATICLIB")).join("../../crates/exports");
+    let of_archive = Path::new(env!("SALTBOBBIN_STATICLIB")).join("..");
     let of_repository = Path::new(env!("CARGO_MANIFEST_DIR")).join("../../crates/exports");
-    if of_archive.is_dir() {
+    if of_archive.join("keyline.h").is_file() {
         of_archive
     } else {
         of_repository
