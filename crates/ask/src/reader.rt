@@ -204,7 +204,7 @@ fn repeat(q: Question, text: &[u8], plain: bool) {
     }
 }
 
-// The last line may have no end. No exit status can be given, so a line on standard error says that lines were wrong.
+// The last line may have no end. The exit status says nothing of wrong lines: a line on standard error says that there were any.
 fn finish(s: Reader)
     requires { GoodState s.state }
 {

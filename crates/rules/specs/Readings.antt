@@ -2,7 +2,7 @@
 -- oracle has the latter among its deliberate mistakes, as number 15 (`ends_untested`) and number 11 (`revoked_covered`), and no comparison
 -- can notice them. A reading of coverage says which delegations count as covered and which of those are eligible. What follows from that is
 -- defined here once for all readings, sentence by sentence as in Rules and under the names there with `By`; what does not depend on it is
--- that of Rules. (`plainly-*` of proofs/Readings/Alike: by the reading of Rules itself these definitions are those of Rules.)
+-- that of Rules. (`plainly_*` of proofs/Readings/Alike: by the reading of Rules itself these definitions are those of Rules.)
 use Rattle.std.specs.Prelude.{ℕ, min, ◌≤◌, ◌≡◌, ◌⊎◌, ◌↔◌}
 use Rattle.std.proofs.Math.Option.{Option, none, some}
 use mathlib.Core.List.{List, Memᴰ}

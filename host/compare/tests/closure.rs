@@ -1,5 +1,5 @@
 //! Demand 3, run: a kernel that holds exactly the certificates of a subject's closure answers about that subject as the kernel does that
-//! holds them all. That it must is a theorem (`stores-agree`, `closure-closed`); here the compiled kernel does it.
+//! holds them all. That it must is a theorem (`stores_agree`, `closure_closed`); here the compiled kernel does it.
 use oracle::{
     published::{keys, Bytes, Encode, Insertion},
     recipes::{case, Recipe, Size, RECIPES},
