@@ -31,12 +31,10 @@ use Rattle.answers.specs.Answers as says
 use Rattle.answers.specs.Answers.{LevelIs, PowerAnswer, Held, Absent}
 use Rattle.answers.specs.Sought as found
 use Rattle.answers.specs.Sought.{PairOf, DelegationOf}
-use Rattle.answers.specs.declared.answer.Powered.{Powered}
-use Rattle.answers.specs.declared.answer.Powered.TheVariants as powered
+use Rattle.power_levels.specs.declared.power.Power.{Power}
 use Rattle.answers.specs.declared.sought.Pair.{Pair}
 use Rattle.answers.specs.declared.sought.Pair.TheVariants as pair
-use Rattle.answers.specs.declared.sought.SoughtDelegation.{SoughtDelegation}
-use Rattle.answers.specs.declared.sought.SoughtDelegation.TheVariants as delegation
+use Rattle.std.specs.Prelude.{Result, Ok, Err, Some, None, Option as Maybe}
 
 -- ## Bytes that say a level are at most 4
 level_small : (b : ℕ) {l : ℕ} → level_of b ≡ some l → l ≤ Admin → b ≤ level_count
@@ -67,23 +65,21 @@ conveyed_small {W} G {d} b a = go refl a.conveys
     go e (plain l u g) = let t = stands_top g.holds in level_small b {l = min (W.power d) l} e (omega arith)
     go e (nothing n) = none_small b e
 
-same_why : {v w : Refusal} → pair.Refused v ≡ pair.Refused w → v ≡ w
+-- a refusal is one for one reason
+pub same_why : {A : Type 0} {v w : Refusal} → ◌≡◌ {A = Result A Refusal} (Err v) (Err w) → v ≡ w
 same_why e = cc
-
-same_why' : {v w : Refusal} → delegation.Refused v ≡ delegation.Refused w → v ≡ w
-same_why' e = cc
 
 -- ## A pair of keys
 module _ {t : Bytes} {n : ℕ} {s x : Bytes} (P : Option ℕ → Type 0) where
-  pub pair_refused : {r : Pair} {why : Refusal} → PairOf t n s x r → r ≡ pair.Refused why → PowerAnswer P s x (powered.Refused why)
-  pair_refused (found.subject-length h) e = subst (λ w. PowerAnswer P s x (powered.Refused w)) (same_why e) (says.subject-length h)
-  pair_refused (found.audience-length h k) e = subst (λ w. PowerAnswer P s x (powered.Refused w)) (same_why e) (says.audience-length h k)
+  pub pair_refused : {r : Result Pair Refusal} {why : Refusal} → PairOf t n s x r → r ≡ Err why → PowerAnswer P s x (Err why)
+  pair_refused (found.subject-length h) e = subst (λ w. PowerAnswer P s x (Err w)) (same_why e) (says.subject-length h)
+  pair_refused (found.audience-length h k) e = subst (λ w. PowerAnswer P s x (Err w)) (same_why e) (says.audience-length h k)
   pair_refused (found.same h k q) e = let z : ◌≡◌ {A = ℕ} 0 1 = cc in absurd (omega arith)
   pair_refused (found.no_subject h k m q) e = let z : ◌≡◌ {A = ℕ} 0 1 = cc in absurd (omega arith)
   pair_refused (found.no_audience h k m q) e = let z : ◌≡◌ {A = ℕ} 0 1 = cc in absurd (omega arith)
   pair_refused (found.held h k a b c d) e = let z : ◌≡◌ {A = ℕ} 0 1 = cc in absurd (omega arith)
 
-  pub pair_same : {r : Pair} → (s ≡ x → P (some Admin)) → PairOf t n s x r → r ≡ pair.Same → PowerAnswer P s x (powered.Level power.Admin)
+  pub pair_same : {r : Result Pair Refusal} → (s ≡ x → P (some Admin)) → PairOf t n s x r → r ≡ (Ok pair.Same) → PowerAnswer P s x (Ok (Some power.Admin))
   pair_same f (found.subject-length h) e = let z : ◌≡◌ {A = ℕ} 0 1 = cc in absurd (omega arith)
   pair_same f (found.audience-length h k) e = let z : ◌≡◌ {A = ℕ} 0 1 = cc in absurd (omega arith)
   pair_same f (found.same h k q) e = says.answered h k (f q) (says.level power.Admin)
@@ -91,8 +87,8 @@ module _ {t : Bytes} {n : ℕ} {s x : Bytes} (P : Option ℕ → Type 0) where
   pair_same f (found.no_audience h k m q) e = let z : ◌≡◌ {A = ℕ} 0 1 = cc in absurd (omega arith)
   pair_same f (found.held h k a b c d) e = let z : ◌≡◌ {A = ℕ} 0 1 = cc in absurd (omega arith)
 
-  pub pair_unheld : {r : Pair} → (¬ (x ≡ s) → has (runs t n) s ≡ false → P none) → (¬ (x ≡ s) → has (runs t n) x ≡ false → P none)
-      → PairOf t n s x r → r ≡ pair.Unheld → PowerAnswer P s x powered.Nothing
+  pub pair_unheld : {r : Result Pair Refusal} → (¬ (x ≡ s) → has (runs t n) s ≡ false → P none) → (¬ (x ≡ s) → has (runs t n) x ≡ false → P none)
+      → PairOf t n s x r → r ≡ (Ok pair.Unheld) → PowerAnswer P s x (Ok None)
   pair_unheld f g (found.subject-length h) e = let z : ◌≡◌ {A = ℕ} 0 1 = cc in absurd (omega arith)
   pair_unheld f g (found.audience-length h k) e = let z : ◌≡◌ {A = ℕ} 0 1 = cc in absurd (omega arith)
   pair_unheld f g (found.same h k q) e = let z : ◌≡◌ {A = ℕ} 0 1 = cc in absurd (omega arith)
@@ -108,7 +104,7 @@ pub record AtPair (t : Bytes) (n : ℕ) (s x : Bytes) (i j : KeyPlace) : Type 0 
   pub audience_in : j.0 < n
   pub audience_is : run_at t j.0 ≡ x
 
-pub pair_at_lem : {t : Bytes} {n : ℕ} {s x : Bytes} {r : Pair} {i j : KeyPlace} → PairOf t n s x r → r ≡ pair.At i j → AtPair t n s x i j
+pub pair_at_lem : {t : Bytes} {n : ℕ} {s x : Bytes} {r : Result Pair Refusal} {i j : KeyPlace} → PairOf t n s x r → r ≡ Ok (pair.At i j) → AtPair t n s x i j
 pair_at_lem (found.subject-length h) e = let z : ◌≡◌ {A = ℕ} 0 1 = cc in absurd (omega arith)
 pair_at_lem (found.audience-length h k) e = let z : ◌≡◌ {A = ℕ} 0 1 = cc in absurd (omega arith)
 pair_at_lem (found.same h k q) e = let z : ◌≡◌ {A = ℕ} 0 1 = cc in absurd (omega arith)
@@ -127,24 +123,21 @@ pair_at_lem {t} {n} {s} {x} {i = i} {j} (found.held {i = a} {j = b} h k p q u v)
     }
 
 module _ {t : Bytes} {n : ℕ} {s x : Bytes} {i j : KeyPlace} (P : Bytes → Bytes → Option ℕ → Type 0) where
-  pub at_pair : {o : Option ℕ} {r : Powered} → AtPair t n s x i j → P (run_at t i.0) (run_at t j.0) o → LevelIs o r → PowerAnswer (P s x) s x r
+  pub at_pair : {o : Option ℕ} {r : Maybe Power} → AtPair t n s x i j → P (run_at t i.0) (run_at t j.0) o → LevelIs o r → PowerAnswer (P s x) s x (Ok r)
   at_pair {o} a p l =
       let q : P s (run_at t j.0) o = subst (λ y. P y (run_at t j.0) o) a.subject_is p in
       says.answered a.subject_long a.audience_long (subst (λ y. P s y o) a.audience_is q) l
 
 -- ## From one question about two keys to another: an answer that holds of both
-same_why'' : {v w : Refusal} → powered.Refused v ≡ powered.Refused w → v ≡ w
-same_why'' e = cc
-
 module _ {P Q : Option ℕ → Type 0} {s x : Bytes} where
   -- a refusal is about lengths alone
-  pub refused_too : {r : Powered} {why : Refusal} → PowerAnswer P s x r → r ≡ powered.Refused why → PowerAnswer Q s x (powered.Refused why)
-  refused_too (says.subject-length h) e = subst (λ w. PowerAnswer Q s x (powered.Refused w)) (same_why'' e) (says.subject-length h)
-  refused_too (says.audience-length h k) e = subst (λ w. PowerAnswer Q s x (powered.Refused w)) (same_why'' e) (says.audience-length h k)
+  pub refused_too : {r : Result (Maybe Power) Refusal} {why : Refusal} → PowerAnswer P s x r → r ≡ Err why → PowerAnswer Q s x (Err why)
+  refused_too (says.subject-length h) e = subst (λ w. PowerAnswer Q s x (Err w)) (same_why e) (says.subject-length h)
+  refused_too (says.audience-length h k) e = subst (λ w. PowerAnswer Q s x (Err w)) (same_why e) (says.audience-length h k)
   refused_too (says.answered h k p (says.level l)) e = let z : ◌≡◌ {A = ℕ} 0 1 = cc in absurd (omega arith)
   refused_too (says.answered h k p says.no_level) e = let z : ◌≡◌ {A = ℕ} 0 1 = cc in absurd (omega arith)
 
-  pub nothing_too : {r : Powered} → (P none → Q none) → PowerAnswer P s x r → r ≡ powered.Nothing → PowerAnswer Q s x powered.Nothing
+  pub nothing_too : {r : Result (Maybe Power) Refusal} → (P none → Q none) → PowerAnswer P s x r → r ≡ (Ok None) → PowerAnswer Q s x (Ok None)
   nothing_too f (says.subject-length h) e = let z : ◌≡◌ {A = ℕ} 0 1 = cc in absurd (omega arith)
   nothing_too f (says.audience-length h k) e = let z : ◌≡◌ {A = ℕ} 0 1 = cc in absurd (omega arith)
   nothing_too f (says.answered h k p (says.level l)) e = let z : ◌≡◌ {A = ℕ} 0 1 = cc in absurd (omega arith)
@@ -156,7 +149,7 @@ pub record AtDelegation (t : Bytes) (n : ℕ) (x : Bytes) (d : DelegationPlace) 
   pub within : d.0 < n
   pub is : run_at t d.0 ≡ x
 
-pub delegation_at_place : {t : Bytes} {n : ℕ} {x : Bytes} {r : SoughtDelegation} {d : DelegationPlace} → DelegationOf t n x r → r ≡ delegation.At d → AtDelegation t n x d
+pub delegation_at_place : {t : Bytes} {n : ℕ} {x : Bytes} {r : Result (Maybe DelegationPlace) Refusal} {d : DelegationPlace} → DelegationOf t n x r → r ≡ Ok (Some d) → AtDelegation t n x d
 delegation_at_place (found.wrong_length h) e = let z : ◌≡◌ {A = ℕ} 0 1 = cc in absurd (omega arith)
 delegation_at_place (found.unheld h q) e = let z : ◌≡◌ {A = ℕ} 0 1 = cc in absurd (omega arith)
 delegation_at_place {d = d} (found.held {d = c} h p q) e = let f : c ≡ d = cc in record { long = h; within = rw f at p; is = rw f at q }
@@ -165,15 +158,15 @@ pub record NotThere (t : Bytes) (n : ℕ) (x : Bytes) : Type 0 where
   pub long : length x ≡ digest_length
   pub absent : has (runs t n) x ≡ false
 
-pub delegation_unheld : {t : Bytes} {n : ℕ} {x : Bytes} {r : SoughtDelegation} → DelegationOf t n x r → r ≡ delegation.Unheld → NotThere t n x
+pub delegation_unheld : {t : Bytes} {n : ℕ} {x : Bytes} {r : Result (Maybe DelegationPlace) Refusal} → DelegationOf t n x r → r ≡ (Ok None) → NotThere t n x
 delegation_unheld (found.wrong_length h) e = let z : ◌≡◌ {A = ℕ} 0 1 = cc in absurd (omega arith)
 delegation_unheld (found.unheld h q) e = record { long = h; absent = q }
 delegation_unheld (found.held h p q) e = let z : ◌≡◌ {A = ℕ} 0 1 = cc in absurd (omega arith)
 
 -- a wrong length, in any statement that begins with it
-pub delegation_refused : {t : Bytes} {n : ℕ} {x : Bytes} {r : SoughtDelegation} {why : Refusal} (S : Refusal → Type 0) → (¬ (length x ≡ digest_length) → S (BadLength (length x)))
-    → DelegationOf t n x r → r ≡ delegation.Refused why → S why
-delegation_refused S f (found.wrong_length h) e = subst S (same_why' e) (f h)
+pub delegation_refused : {t : Bytes} {n : ℕ} {x : Bytes} {r : Result (Maybe DelegationPlace) Refusal} {why : Refusal} (S : Refusal → Type 0) → (¬ (length x ≡ digest_length) → S (BadLength (length x)))
+    → DelegationOf t n x r → r ≡ Err why → S why
+delegation_refused S f (found.wrong_length h) e = subst S (same_why e) (f h)
 delegation_refused S f (found.unheld h q) e = let z : ◌≡◌ {A = ℕ} 0 1 = cc in absurd (omega arith)
 delegation_refused S f (found.held h p q) e = let z : ◌≡◌ {A = ℕ} 0 1 = cc in absurd (omega arith)
 

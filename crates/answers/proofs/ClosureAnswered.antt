@@ -22,8 +22,6 @@ use Rattle.store.specs.Store.{committed, GoodStore}
 use Rattle.store.specs.declared.Store.{Store}
 use Rattle.lists.specs.Lists.{both_answer, both_buffer}
 use Rattle.lists.specs.Marks.{chosen_runs}
-use Rattle.lists.specs.declared.write.BothListed.{BothListed}
-use Rattle.lists.specs.declared.write.BothListed.TheVariants as two
 use Rattle.coverage.specs.Places.{places}
 use Rattle.coverage.specs.declared.Facts.{Facts}
 use Rattle.answers.specs.Facts.{FactsOf}
@@ -32,34 +30,37 @@ use Rattle.answers.specs.Answers as says
 use Rattle.answers.specs.Answers.{ClosureIs, ClosureAnswer, digests, rev_digests}
 use Rattle.answers.proofs.Places.{delegation_of}
 use Rattle.answers.proofs.Closures.{closure_is, revocation_of}
+use Rattle.lists.specs.declared.write.Counts.{Counts}
+use Rattle.keyline.specs.declared.refusal.Refusal.{Refusal}
+use Rattle.std.specs.Prelude.{Result, Ok, Err}
 
 -- ## The answer of two lists is the closure's, where the lists are
 module _ (c : Committed) (key out : Bytes) (ds : List Delegation) (vs : List Revocation) (long : length key ≡ key_length) (is : ClosureIs c key ds vs) where
   abbrev need : ℕ
   need = digest_length * length ds + digest_length * length vs
 
-  answer : ℕ → ℕ → BothListed
-  answer x y = cond (ltb (length out) (run_length * x + run_length * y)) (two.Refused (SmallBuffer (run_length * x + run_length * y))) (two.Items x y)
+  answer : ℕ → ℕ → Result Counts Refusal
+  answer x y = cond (ltb (length out) (run_length * x + run_length * y)) (Err (SmallBuffer (run_length * x + run_length * y))) (Ok (record { delegations = x; revocations = y }))
 
   answer_is : both_answer (digests ds) (rev_digests vs) (length out) ≡ answer (length ds) (length vs)
   unfolding both_answer answer
   answer_is = ap (λ x. answer x (length (rev_digests vs))) (length-map ds (λ d. d.digest)) ∙ ap (λ y. answer (length ds) y) (length-map vs (λ v. v.digest))
 
-  pub both_closure : {r : BothListed} {o : Bytes} → r ≡ both_answer (digests ds) (rev_digests vs) (length out)
+  pub both_closure : {r : Result Counts Refusal} {o : Bytes} → r ≡ both_answer (digests ds) (rev_digests vs) (length out)
       → o ≡ both_buffer r (digests ds) (rev_digests vs) out → ClosureAnswer c key out r o
   unfolding answer
   both_closure {r} {o} e b = go (ltb (length out) need) refl
     where
       go : (t : Bool) → ltb (length out) need ≡ t → ClosureAnswer c key out r o
       go true u =
-          let p : r ≡ two.Refused (SmallBuffer need) = e ∙ (answer_is ∙ ap (λ (t : Bool). cond t (two.Refused (SmallBuffer need)) (two.Items (length ds) (length vs))) u) in
+          let p : r ≡ Err (SmallBuffer need) = e ∙ (answer_is ∙ ap (λ (t : Bool). cond t (Err (SmallBuffer need)) (Ok (record { delegations = length ds; revocations = length vs }))) u) in
           let q : o ≡ out = b ∙ ap (λ z. both_buffer z (digests ds) (rev_digests vs) out) p in
-          subst (λ z. ClosureAnswer c key out z o) (sym p) (subst (λ y. ClosureAnswer c key out (two.Refused (SmallBuffer need)) y) (sym q)
+          subst (λ z. ClosureAnswer c key out z o) (sym p) (subst (λ y. ClosureAnswer c key out (Err (SmallBuffer need)) y) (sym q)
           (says.room long is (ltb-true (length out) need u)))
       go false u =
-          let p : r ≡ two.Items (length ds) (length vs) = e ∙ (answer_is ∙ ap (λ (t : Bool). cond t (two.Refused (SmallBuffer need)) (two.Items (length ds) (length vs))) u) in
+          let p : r ≡ Ok (record { delegations = length ds; revocations = length vs }) = e ∙ (answer_is ∙ ap (λ (t : Bool). cond t (Err (SmallBuffer need)) (Ok (record { delegations = length ds; revocations = length vs }))) u) in
           let q : o ≡ front (joined (digests ds) ++ joined (rev_digests vs)) out = b ∙ ap (λ z. both_buffer z (digests ds) (rev_digests vs) out) p in
-          subst (λ z. ClosureAnswer c key out z o) (sym p) (subst (λ y. ClosureAnswer c key out (two.Items (length ds) (length vs)) y) (sym q)
+          subst (λ z. ClosureAnswer c key out z o) (sym p) (subst (λ y. ClosureAnswer c key out (Ok (record { delegations = length ds; revocations = length vs })) y) (sym q)
           (says.answered long is (ltb-false (length out) need u)))
 
 -- ## The chosen places
@@ -107,7 +108,7 @@ module _ (s : Store) (g : GoodStore s) (e : Facts) (f : FactsOf s e) (i : ℕ) (
       same [] = refl
       same (x ∷ l) = ap (λ (m : List Bytes). run_at s.revocations.digests x ∷ m) (same l)
 
-  pub closure_answer : {key out o : Bytes} {r : BothListed} → length key ≡ key_length → run_at s.keys.table i ≡ key
+  pub closure_answer : {key out o : Bytes} {r : Result Counts Refusal} → length key ≡ key_length → run_at s.keys.table i ≡ key
       → r ≡ both_answer (chosen_runs s.delegations.digests a) (chosen_runs s.revocations.digests b) (length out)
       → o ≡ both_buffer r (chosen_runs s.delegations.digests a) (chosen_runs s.revocations.digests b) out
       → ClosureAnswer (committed s) key out r o

@@ -20,7 +20,6 @@ use Rattle.runs.specs.Chosen.{picked, Chose, values_at, Listable, Valued}
 use Rattle.runs.specs.declared.list.Chosen.{Chosen}
 use Rattle.runs.proofs.AscentLaws.{lt_irrefl}
 use Rattle.runs.proofs.ListLaws.{chosen_lists}
-use Rattle.lists.specs.declared.write.Listed.TheVariants as listed-as
 use Rattle.lists.proofs.ChosenLaws.{stand}
 use Rattle.store.specs.Store.{committed, GoodStore}
 use Rattle.store.specs.declared.Store.{Store}
@@ -33,6 +32,7 @@ use Rattle.answers.specs.Answers as says
 use Rattle.answers.specs.Answers.{MembersAnswer, member_keys, member_letters}
 use Rattle.answers.proofs.Counting.{ascending_once, ones_length}
 use Rattle.answers.proofs.Members.{members_are, chosen_place, place_chosen}
+use Rattle.std.specs.Prelude.{Ok, Err}
 
 -- ## A member's mark
 member_yes : (b x i : ℕ) → isMember b x i ≡ true → ¬ (x ≡ i) × (0 < b)
@@ -157,23 +157,23 @@ module _ (s : Store) (g : GoodStore s) (e : Facts) (f : FactsOf s e) {κ : ℕ �
             }
 
         module _ {key keys powers : Bytes} (long : length key ≡ key_length) (is : run_at s.keys.table i ≡ key) where
-          pub keys_small : length keys < key_length * k → MembersAnswer (committed s) key keys powers (listed-as.Refused (SmallBuffer (key_length * k))) keys powers
-          keys_small r = subst (λ n. MembersAnswer (committed s) key keys powers (listed-as.Refused (SmallBuffer (key_length * n))) keys powers) long_k
+          pub keys_small : length keys < key_length * k → MembersAnswer (committed s) key keys powers (Err (SmallBuffer (key_length * k))) keys powers
+          keys_small r = subst (λ n. MembersAnswer (committed s) key keys powers (Err (SmallBuffer (key_length * n))) keys powers) long_k
               (says.keys_room long (are is) (rw long_k r))
 
-          pub powers_small : key_length * k ≤ length keys → length powers < k → MembersAnswer (committed s) key keys powers (listed-as.Refused (SmallBuffer k)) keys powers
-          powers_small r t = subst (λ n. MembersAnswer (committed s) key keys powers (listed-as.Refused (SmallBuffer n)) keys powers) long_k
+          pub powers_small : key_length * k ≤ length keys → length powers < k → MembersAnswer (committed s) key keys powers (Err (SmallBuffer k)) keys powers
+          powers_small r t = subst (λ n. MembersAnswer (committed s) key keys powers (Err (SmallBuffer n)) keys powers) long_k
               (says.powers_room long (are is) (rw long_k r) (rw long_k t))
 
           pub members_answered : {u v : Bytes} (letters : List ℕ) → Letters row letters → key_length * k ≤ length keys → k ≤ length powers
               → u ≡ front (joined (map (run_at s.keys.table) (take k c.places))) keys → v ≡ front (values_at letters (take k c.places)) powers
-              → MembersAnswer (committed s) key keys powers (listed-as.Items k) u v
+              → MembersAnswer (committed s) key keys powers (Ok k) u v
           members_answered {u} {v} letters le r t p q =
               let a : u ≡ front (joined (member_keys listed)) keys =
               p ∙ ap (λ (l : List Bytes). front (joined l) keys) (ap (λ n. map (run_at s.keys.table) (take n c.places)) kw ∙ keys_written) in
               let b : v ≡ front (member_letters listed) powers =
               q ∙ ap (λ (l : List ℕ). front l powers) (ap (λ n. values_at letters (take n c.places)) kw ∙ letters_written letters le) in
-              subst (λ n. MembersAnswer (committed s) key keys powers (listed-as.Items n) u v) long_k
-              (subst (λ y. MembersAnswer (committed s) key keys powers (listed-as.Items (length listed)) y v) (sym a)
-              (subst (λ y. MembersAnswer (committed s) key keys powers (listed-as.Items (length listed)) (front (joined (member_keys listed)) keys) y) (sym b)
+              subst (λ n. MembersAnswer (committed s) key keys powers (Ok n) u v) long_k
+              (subst (λ y. MembersAnswer (committed s) key keys powers (Ok (length listed)) y v) (sym a)
+              (subst (λ y. MembersAnswer (committed s) key keys powers (Ok (length listed)) (front (joined (member_keys listed)) keys) y) (sym b)
               (says.answered long (are is) (rw long_k r) (rw long_k t))))

@@ -19,13 +19,14 @@ use Rattle.lists.specs.Lists.{length_first, list_answer, list_buffer, delegation
 use Rattle.lists.proofs.AreLists.{delegations_list, revocations_list}
 use Rattle.tables.specs.Committed.{Delegation, Revocation, Committed, no_delegation, delegation_digests, delegation_with}
 use Rattle.answers.specs.Graph.{graph, store}
-use Rattle.lists.specs.declared.write.Listed.{Listed}
 use Rattle.answers.specs.OneClosure.{Apart, OneClosure, SameAnswers}
 use Rattle.runs.proofs.BoolLaws.{both_true}
 use Rattle.runs.proofs.ByteLaws.{eq_true, eq_same}
 use Rattle.runs.proofs.AscentLaws.{lt_not_both}
 use Rattle.answers.proofs.Equality.{finite}
 use Rattle.answers.proofs.Settled.{power_settled, conveyed_power_settled, is_live_settled, standing_answer_settled, members_answer_settled, closure_answer_settled}
+use Rattle.keyline.specs.declared.refusal.Refusal.{Refusal}
+use Rattle.std.specs.Prelude.{Result}
 
 -- A held delegation is the one with its digest.
 named : (l : List Delegation) (d : Delegation) → ((e : Delegation) → Memᴰ e l → e.digest ≡ d.digest → e ≡ d) → Memᴰ d l
@@ -65,13 +66,13 @@ naming A B d y f i =
     record { one = i.one; held = t.held; fits = i.fits; is = i.is }
 
 -- equal lists give equal answers and bytes, as the answer and the buffer are computed from the list
-listed : (f : List Bytes → Listed) (out : Bytes) {l m : List Bytes} {r q : Listed} {o₁ o₂ : Bytes}
+listed : (f : List Bytes → Result ℕ Refusal) (out : Bytes) {l m : List Bytes} {r q : Result ℕ Refusal} {o₁ o₂ : Bytes}
     → l ≡ m → (r ≡ f l) × (o₁ ≡ list_buffer r l out) → (q ≡ f m) × (o₂ ≡ list_buffer q m out) → (r ≡ q) × (o₁ ≡ o₂)
 listed f out {l} {m} {r} {q} e a b =
     let p : r ≡ q = a.0 ∙ ap f e ∙ sym b.0 in
-    (p, a.1 ∙ ap (λ (x : Listed × List Bytes). list_buffer x.0 x.1 out) (pair p e) ∙ sym b.1)
+    (p, a.1 ∙ ap (λ (x : (Result ℕ Refusal) × List Bytes). list_buffer x.0 x.1 out) (pair p e) ∙ sym b.1)
   where
-    pair : {x y : Listed} {k n : List Bytes} → x ≡ y → k ≡ n → ◌≡◌ {A = Listed × List Bytes} (x, k) (y, n)
+    pair : {x y : Result ℕ Refusal} {k n : List Bytes} → x ≡ y → k ≡ n → ◌≡◌ {A = (Result ℕ Refusal) × List Bytes} (x, k) (y, n)
     pair g h = cc
 
 module _ (A B : Committed) (s : Bytes) (apart : Apart A) (apart' : Apart B) (one : OneClosure A B s) where

@@ -11,13 +11,10 @@ use Rattle.places.specs.declared.KeyPlace.{KeyPlace}
 use Rattle.runs.specs.Bytes.{Bytes, run_at}
 use Rattle.runs.specs.Members.{has}
 use Rattle.runs.specs.Table.{runs}
+use Rattle.answers.proofs.Cases.{same_why}
 use Rattle.answers.specs.Sought as found
 use Rattle.answers.specs.Sought.{KeyOf}
-use Rattle.answers.specs.declared.sought.SoughtKey.{SoughtKey}
-use Rattle.answers.specs.declared.sought.SoughtKey.TheVariants as key
-
-same_why : {v w : Refusal} → key.Refused v ≡ key.Refused w → v ≡ w
-same_why e = cc
+use Rattle.std.specs.Prelude.{Result, Ok, Err, Option, Some, None}
 
 pub record AtKey (t : Bytes) (n : ℕ) (s : Bytes) (i : KeyPlace) : Type 0 where
   pub long : length s ≡ key_length
@@ -29,18 +26,18 @@ pub record NoKey (t : Bytes) (n : ℕ) (s : Bytes) : Type 0 where
   pub absent : has (runs t n) s ≡ false
 
 -- a wrong length, in any statement that begins with it
-pub key_refused : {t : Bytes} {n : ℕ} {s : Bytes} {r : SoughtKey} {why : Refusal} (S : Refusal → Type 0) → (¬ (length s ≡ key_length) → S (BadLength (length s)))
-    → KeyOf t n s r → r ≡ key.Refused why → S why
+pub key_refused : {t : Bytes} {n : ℕ} {s : Bytes} {r : Result (Option KeyPlace) Refusal} {why : Refusal} (S : Refusal → Type 0) → (¬ (length s ≡ key_length) → S (BadLength (length s)))
+    → KeyOf t n s r → r ≡ Err why → S why
 key_refused S f (found.wrong_length h) e = subst S (same_why e) (f h)
 key_refused S f (found.unheld h q) e = let z : ◌≡◌ {A = ℕ} 0 1 = cc in absurd (omega arith)
 key_refused S f (found.held h p q) e = let z : ◌≡◌ {A = ℕ} 0 1 = cc in absurd (omega arith)
 
-pub key_unheld : {t : Bytes} {n : ℕ} {s : Bytes} {r : SoughtKey} → KeyOf t n s r → r ≡ key.Unheld → NoKey t n s
+pub key_unheld : {t : Bytes} {n : ℕ} {s : Bytes} {r : Result (Option KeyPlace) Refusal} → KeyOf t n s r → r ≡ (Ok None) → NoKey t n s
 key_unheld (found.wrong_length h) e = let z : ◌≡◌ {A = ℕ} 0 1 = cc in absurd (omega arith)
 key_unheld (found.unheld h q) e = record { long = h; absent = q }
 key_unheld (found.held h p q) e = let z : ◌≡◌ {A = ℕ} 0 1 = cc in absurd (omega arith)
 
-pub key_at : {t : Bytes} {n : ℕ} {s : Bytes} {r : SoughtKey} {i : KeyPlace} → KeyOf t n s r → r ≡ key.At i → AtKey t n s i
+pub key_at : {t : Bytes} {n : ℕ} {s : Bytes} {r : Result (Option KeyPlace) Refusal} {i : KeyPlace} → KeyOf t n s r → r ≡ Ok (Some i) → AtKey t n s i
 key_at (found.wrong_length h) e = let z : ◌≡◌ {A = ℕ} 0 1 = cc in absurd (omega arith)
 key_at (found.unheld h q) e = let z : ◌≡◌ {A = ℕ} 0 1 = cc in absurd (omega arith)
 key_at {i = i} (found.held {i = a} h p q) e = let f : a ≡ i = cc in record { long = h; within = rw f at p; is = rw f at q }

@@ -9,8 +9,8 @@ use Rattle.coverage.specs.Places.{places, Fit, Subject}
 use Rattle.coverage.specs.Coverage.{Nets}
 use Rattle.caps.specs.Caps.{Capped}
 use Rattle.evaluation.specs.declared.Evaluation.{Evaluation}
-use Rattle.evaluation.specs.declared.standing.Standing.{Standing}
-use Rattle.evaluation.specs.declared.standing.Standing.TheVariants.{Live, Revoked, Unsupported}
+use Rattle.keyline.specs.declared.standing.Standing.{Standing}
+use Rattle.keyline.specs.declared.standing.Standing.TheVariants.{Live, Revoked, Unsupported}
 
 pub record Evaluated (v : Evaluation) : Type 0 where
   pub fit : Fit v.facts

@@ -9,14 +9,8 @@ ghost use Rattle.coverage.specs.Places.{places};
 ghost use Rattle.evaluation.specs.Result.{Evaluated, standing_of};
 
 use crate::Evaluation;
+use keyline::standing::Standing;
 use places::{DelegationPlace, REVOCATION_LIMIT, wide};
-
-#[derive(Clone, Copy)]
-pub enum Standing {
-    Live,
-    Revoked,
-    Unsupported,
-}
 
 // Whether one of the first m revocations names d.
 fn named(target: &[u8; REVOCATION_LIMIT], m: usize, d: usize) -> bool

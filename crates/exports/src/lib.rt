@@ -9,7 +9,6 @@ ghost use Rattle.numbers.specs.Numbers.{decode_number, decode_beside, decode_pow
 ghost use Rattle.exports.specs.Answer.{RunIs};
 
 use numbers::NOT_REFUSED;
-use script::run::Ran;
 
 // Reads a payload. Behind the pointers: the value beside a refusal, the power's byte and rank, and the number of citation bytes.
 #[unsafe(no_mangle)]
@@ -60,12 +59,12 @@ pub extern "C" fn keyline_run(
     ensures { RunIs script.now answers.old result answers.new used.new beside.new }
 {
     match script::run::run(script, answers) {
-        Ran::Bytes(n) => {
+        Ok(n) => {
             *used = n;
             *beside = 0;
             NOT_REFUSED
         }
-        Ran::Refused(r) => {
+        Err(r) => {
             *used = 0;
             *beside = keyline::refusal::beside(r);
             keyline::refusal::number(r)

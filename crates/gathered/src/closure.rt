@@ -3,25 +3,26 @@ ghost use Rattle.answers.specs.Answers.{ClosureAnswer};
 ghost use Rattle.store.specs.Store.{committed};
 ghost use Rattle.powers.specs.EvaluationOf.{EvaluationOf};
 
-use answers::sought::SoughtKey;
 use answers::{marks, sought};
 use evaluation::Evaluation;
 use keyline::limits::{DELEGATION_LIMIT, REVOCATION_LIMIT};
-use lists::write::BothListed;
+use keyline::refusal::Refusal;
+use lists::write::Counts;
 use store::Store;
 
 // Every held delegation whose subject is the one given or stands positively over it, and every held revocation that names one of them.
-pub fn closure(store: Store, evaluation: Evaluation, subject: &[u8], out: &mut [u8]) -> BothListed
+pub fn closure(store: Store, evaluation: Evaluation, subject: &[u8], out: &mut [u8]) -> Result<Counts, Refusal>
     requires { EvaluationOf store evaluation }
     ensures { ClosureAnswer (committed store) subject.now out.old result out.new }
 {
     let n = store.keys.count;
     let table = store.keys.table;
-    let asked = sought::seek_key(&table, n, subject);
-    match asked {
-        SoughtKey::Refused(why) => BothListed::Refused(why),
-        SoughtKey::Unheld => BothListed::Items(0, 0),
-        SoughtKey::At(s) => {
+    match sought::seek_key(&table, n, subject)? {
+        None => Ok(Counts {
+            delegations: 0,
+            revocations: 0,
+        }),
+        Some(s) => {
             let nodes = evaluation::nodes::nodes(evaluation, s);
             let d = store.delegations.count;
             let m = store.revocations.count;

@@ -3,12 +3,10 @@ ghost use Rattle.answers.specs.Answers.{MembersAnswer};
 ghost use Rattle.store.specs.Store.{committed};
 ghost use Rattle.powers.specs.EvaluationOf.{EvaluationOf};
 
-use answers::sought::SoughtKey;
 use answers::{marks, sought};
 use evaluation::Evaluation;
 use keyline::limits::{KEY_LENGTH, KEY_LIMIT};
 use keyline::refusal::Refusal;
-use lists::write::Listed;
 use store::Store;
 
 // The members of the subject, ascending: keys in one buffer, power bytes in another. The count comes from ones.
@@ -18,17 +16,15 @@ pub fn members(
     subject: &[u8],
     keys: &mut [u8],
     powers: &mut [u8],
-) -> Listed
+) -> Result<usize, Refusal>
     requires { EvaluationOf store evaluation }
     ensures { MembersAnswer (committed store) subject.now keys.old powers.old result keys.new powers.new }
 {
     let n = store.keys.count;
     let table = store.keys.table;
-    let asked = sought::seek_key(&table, n, subject);
-    match asked {
-        SoughtKey::Refused(why) => Listed::Refused(why),
-        SoughtKey::Unheld => Listed::Items(0),
-        SoughtKey::At(s) => {
+    match sought::seek_key(&table, n, subject)? {
+        None => Ok(0),
+        Some(s) => {
             let row = evaluation::levels::levels(evaluation, s);
             let on = marks::member_marks(&row, n, s.0);
             let c = runs::list::choose(&table, KEY_LIMIT, n, &on);
@@ -36,14 +32,14 @@ pub fn members(
             let k = keyset::count(marks::member_word(&row, n, s.0));
             let need = KEY_LENGTH * k;
             if keys.len() < need {
-                return Listed::Refused(Refusal::SmallBuffer(need));
+                return Err(Refusal::SmallBuffer(need));
             }
             if powers.len() < k {
-                return Listed::Refused(Refusal::SmallBuffer(k));
+                return Err(Refusal::SmallBuffer(k));
             }
             runs::list::put_runs(&table, &c.places, k, keys);
             runs::list::put_values(&letters, &c.places, k, powers);
-            Listed::Items(k)
+            Ok(k)
         }
     }
 }

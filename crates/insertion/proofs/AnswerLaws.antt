@@ -24,11 +24,12 @@ use Rattle.tables.specs.Insertion.{Seen, seen_delegation, seen_revocation, held_
 use Rattle.tables.specs.Columns.{key_place, row_at}
 use Rattle.tables.specs.Look.{delegation_there, revocation_there}
 use Rattle.store.specs.Store.{committed, GoodStore}
-use Rattle.tables.specs.declared.answer.Answer.{Answer}
-use Rattle.tables.specs.declared.answer.Answer.TheVariants.{Added, Refused}
 use Rattle.store.specs.declared.Store.{Store}
 use Rattle.tables.proofs.ContentLaws.{any_digest, any_revoked}
 use Rattle.store.proofs.ViewLaws.{keys_same, delegations_long, revocations_long, delegation_found, delegation_is, revocation_found, revocation_is}
+use Rattle.tables.specs.declared.answer.Outcome.{Outcome}
+use Rattle.tables.specs.declared.answer.Outcome.TheVariants.{Added}
+use Rattle.std.specs.Prelude.{Result, Ok, Err}
 
 -- ---- settled by what is seen: certificates of kind A, whose content `same` compares
 pub record Alike {A : Type 0} (same : A → A → Bool) (v w : Seen A) : Type 0 where
@@ -43,8 +44,8 @@ module _ (v w : Seen Delegation) (a : Alike same_content v w) where
   accepted_same g = rw (a.held, a.count) (go w.held a.other)
     where
       go : (t : Bool) → (t ≡ true → (h : Delegation) → same_content v.other h ≡ same_content w.other h)
-          → cond t (held_answer (same_content v.other g)) (cond (ltb w.count delegation_limit) (keys_answer v.keys (delegation_keys g)) (Refused FullDelegations))
-          ≡ cond t (held_answer (same_content w.other g)) (cond (ltb w.count delegation_limit) (keys_answer w.keys (delegation_keys g)) (Refused FullDelegations))
+          → cond t (held_answer (same_content v.other g)) (cond (ltb w.count delegation_limit) (keys_answer v.keys (delegation_keys g)) (Err FullDelegations))
+          ≡ cond t (held_answer (same_content w.other g)) (cond (ltb w.count delegation_limit) (keys_answer w.keys (delegation_keys g)) (Err FullDelegations))
       go true f = ap held_answer (f refl g)
       go false f = rw (a.keys (delegation_keys g))
 
@@ -62,8 +63,8 @@ module _ (v w : Seen Revocation) (a : Alike same_revoked v w) where
   settled_same r = rw (a.held, a.count) (go w.held a.other)
     where
       go : (t : Bool) → (t ≡ true → (h : Revocation) → same_revoked v.other h ≡ same_revoked w.other h)
-          → cond t (held_answer (same_revoked v.other r)) (cond (ltb w.count revocation_limit) (keys_answer v.keys (revocation_keys r)) (Refused FullRevocations))
-          ≡ cond t (held_answer (same_revoked w.other r)) (cond (ltb w.count revocation_limit) (keys_answer w.keys (revocation_keys r)) (Refused FullRevocations))
+          → cond t (held_answer (same_revoked v.other r)) (cond (ltb w.count revocation_limit) (keys_answer v.keys (revocation_keys r)) (Err FullRevocations))
+          ≡ cond t (held_answer (same_revoked w.other r)) (cond (ltb w.count revocation_limit) (keys_answer w.keys (revocation_keys r)) (Err FullRevocations))
       go true f = ap held_answer (f refl r)
       go false f = rw (a.keys (revocation_keys r))
 
@@ -96,26 +97,26 @@ module _ (s : Store) (g : GoodStore s) (d : Bytes) where
       }) d i x
 
 -- ---- what Added means
-clash : {r : Refusal} → Refused r ≡ Added → ⊥
+clash : {r : Refusal} → Err r ≡ (Ok Added) → ⊥
 clash e = let z : ◌≡◌ {A = ℕ} 0 1 = cc in omega arith
 
-cond_added : (t : Bool) (a : Answer) (r : Refusal) → cond t a (Refused r) ≡ Added → (t ≡ true) × (a ≡ Added)
+cond_added : (t : Bool) (a : Result Outcome Refusal) (r : Refusal) → cond t a (Err r) ≡ (Ok Added) → (t ≡ true) × (a ≡ (Ok Added))
 cond_added true a r h = (refl, h)
 cond_added false a r h = absurd (clash h)
 
-held_not : (t : Bool) → held_answer t ≡ Added → ⊥
+held_not : (t : Bool) → held_answer t ≡ (Ok Added) → ⊥
 held_not true e = let z : ◌≡◌ {A = ℕ} 0 1 = cc in omega arith
 held_not false e = clash e
 
-new_added : (t u : Bool) (a : Answer) → cond t (held_answer u) a ≡ Added → (t ≡ false) × (a ≡ Added)
+new_added : (t u : Bool) (a : Result Outcome Refusal) → cond t (held_answer u) a ≡ (Ok Added) → (t ≡ false) × (a ≡ (Ok Added))
 new_added true u a h = absurd (held_not u h)
 new_added false u a h = (refl, h)
 
-keys_room : (l ks : List Bytes) → keys_answer l ks ≡ Added → length l + length (fresh l ks) ≤ key_limit
+keys_room : (l ks : List Bytes) → keys_answer l ks ≡ (Ok Added) → length l + length (fresh l ks) ≤ key_limit
 unfolding keys_answer
 keys_room l ks h = go (ltb key_limit (length l + length (fresh l ks))) refl h
   where
-    go : (t : Bool) → ltb key_limit (length l + length (fresh l ks)) ≡ t → cond t (Refused (FullKeys (length (fresh l ks)))) Added ≡ Added → length l + length (fresh l ks) ≤ key_limit
+    go : (t : Bool) → ltb key_limit (length l + length (fresh l ks)) ≡ t → cond t (Err (FullKeys (length (fresh l ks)))) (Ok Added) ≡ (Ok Added) → length l + length (fresh l ks) ≤ key_limit
     go true e k = absurd (clash k)
     go false e k = ltb-false key_limit (length l + length (fresh l ks)) e
 
@@ -129,17 +130,17 @@ pub record DelegationAdded (v : Seen Delegation) (d i p : Bytes) : Type 0 where
   pub room : v.count < delegation_limit
   pub keys : length v.keys + length (fresh v.keys (delegation_keys (delegation_from d i p power))) ≤ key_limit
 
-pub delegation_added_lem : (v : Seen Delegation) (d i p : Bytes) → delegation_check v d i p ≡ Added → DelegationAdded v d i p
+pub delegation_added_lem : (v : Seen Delegation) (d i p : Bytes) → delegation_check v d i p ≡ (Ok Added) → DelegationAdded v d i p
 unfolding delegation_check accepted_answer
 delegation_added_lem v d i p h =
     let a = cond_added (eqb (length d) digest_length) _ _ h in
     let b = cond_added (eqb (length i) key_length) _ _ a.1 in
     go (decoded p) refl (eqb-true (length d) digest_length a.0) (eqb-true (length i) key_length b.0) b.1
   where
-    go : (r : Decoded) → decoded p ≡ r → length d ≡ digest_length → length i ≡ key_length → payload_answer r v d i p ≡ Added → DelegationAdded v d i p
+    go : (r : Decoded) → decoded p ≡ r → length d ≡ digest_length → length i ≡ key_length → payload_answer r v d i p ≡ (Ok Added) → DelegationAdded v d i p
     go (reading.Refused r) e x y k = absurd (clash k)
     go (reading.Accepted w t) e x y k =
-        let q = new_added v.held (same_content v.other (delegation_from d i p w)) (cond (ltb v.count delegation_limit) (keys_answer v.keys (delegation_keys (delegation_from d i p w))) (Refused FullDelegations)) k in
+        let q = new_added v.held (same_content v.other (delegation_from d i p w)) (cond (ltb v.count delegation_limit) (keys_answer v.keys (delegation_keys (delegation_from d i p w))) (Err FullDelegations)) k in
         let u = cond_added (ltb v.count delegation_limit) (keys_answer v.keys (delegation_keys (delegation_from d i p w))) FullDelegations q.1 in
         record {
           digest = x;
@@ -160,13 +161,13 @@ pub record RevocationAdded (v : Seen Revocation) (d i x : Bytes) : Type 0 where
   pub room : v.count < revocation_limit
   pub keys : length v.keys + length (fresh v.keys (revocation_keys (revocation_from d i x))) ≤ key_limit
 
-pub revocation_added_lem : (v : Seen Revocation) (d i x : Bytes) → revocation_check v d i x ≡ Added → RevocationAdded v d i x
+pub revocation_added_lem : (v : Seen Revocation) (d i x : Bytes) → revocation_check v d i x ≡ (Ok Added) → RevocationAdded v d i x
 unfolding revocation_check revocation_settled
 revocation_added_lem v d i x h =
     let a = cond_added (eqb (length d) digest_length) _ _ h in
     let b = cond_added (eqb (length i) key_length) _ _ a.1 in
     let c = cond_added (eqb (length x) digest_length) _ _ b.1 in
-    let q = new_added v.held (same_revoked v.other (revocation_from d i x)) (cond (ltb v.count revocation_limit) (keys_answer v.keys (revocation_keys (revocation_from d i x))) (Refused FullRevocations)) c.1 in
+    let q = new_added v.held (same_revoked v.other (revocation_from d i x)) (cond (ltb v.count revocation_limit) (keys_answer v.keys (revocation_keys (revocation_from d i x))) (Err FullRevocations)) c.1 in
     let u = cond_added (ltb v.count revocation_limit) (keys_answer v.keys (revocation_keys (revocation_from d i x))) FullRevocations q.1 in
     record {
       digest = eqb-true (length d) digest_length a.0;

@@ -19,23 +19,25 @@ use Rattle.tables.specs.Committed.{Committed}
 use Rattle.tables.specs.Insertion.{is_added}
 use Rattle.store.specs.Store.{committed, GoodStore}
 use Rattle.insertion.specs.Inserted.{Insertion}
-use Rattle.tables.specs.declared.answer.Answer.{Answer}
-use Rattle.tables.specs.declared.answer.Answer.TheVariants.{Added, NotAdded, Refused}
 use Rattle.store.specs.declared.Store.{Store}
 use Rattle.insertion.proofs.KeyLaws.{KeyRoom}
 use Rattle.tables.proofs.PayloadLaws.{Cited}
+use Rattle.tables.specs.declared.answer.Outcome.{Outcome}
+use Rattle.keyline.specs.declared.refusal.Refusal.{Refusal}
+use Rattle.tables.specs.declared.answer.Outcome.TheVariants.{Added, NotAdded}
+use Rattle.std.specs.Prelude.{Result, Ok, Err}
 
-pub is_added_lem : (a : Answer) → is_added a ≡ true → a ≡ Added
-is_added_lem Added e = refl
-is_added_lem NotAdded e = let z : ◌≡◌ {A = ℕ} 0 1 = cc in absurd (omega arith)
-is_added_lem (Refused r) e = let z : ◌≡◌ {A = ℕ} 0 1 = cc in absurd (omega arith)
+pub is_added_lem : (a : Result Outcome Refusal) → is_added a ≡ true → a ≡ (Ok Added)
+is_added_lem (Ok Added) e = refl
+is_added_lem (Ok NotAdded) e = let z : ◌≡◌ {A = ℕ} 0 1 = cc in absurd (omega arith)
+is_added_lem (Err r) e = let z : ◌≡◌ {A = ℕ} 0 1 = cc in absurd (omega arith)
 
 -- nothing is added
-pub kept_law : (s : Store) (a b : Answer) (new : Committed) → GoodStore s → a ≡ b → is_added a ≡ false → Insertion s (record { answer = a; store = s }) b new
+pub kept_law : (s : Store) (a b : Result Outcome Refusal) (new : Committed) → GoodStore s → a ≡ b → is_added a ≡ false → Insertion s (record { answer = a; store = s }) b new
 kept_law s a b new g e f = record { answer = e; good = g; held = rw (← e, f); kept = λ h. refl }
 
 -- the certificate is added
-pub added_law : (s u : Store) (a b : Answer) (new : Committed) → GoodStore u → committed u ≡ new → a ≡ b → is_added a ≡ true → Insertion s (record { answer = a; store = u }) b new
+pub added_law : (s u : Store) (a b : Result Outcome Refusal) (new : Committed) → GoodStore u → committed u ≡ new → a ≡ b → is_added a ≡ true → Insertion s (record { answer = a; store = u }) b new
 added_law s u a b new g c e f = record {
   answer = e;
   good = g;

@@ -13,11 +13,12 @@ use keyline::limits::KEY_LENGTH;
 use places::{DelegationPlace, KeyPlace, RevocationPlace};
 use runs::table;
 use store::Store;
-use tables::answer::Answer;
+use keyline::refusal::Refusal;
+use tables::answer::Outcome;
 
 #[derive(Clone, Copy)]
 pub struct Inserted {
-    pub answer: Answer,
+    pub answer: Result<Outcome, Refusal>,
     pub store: Store,
 }
 

@@ -4,3 +4,4 @@
 
 pub mod limits;
 pub mod refusal;
+pub mod standing;

@@ -8,12 +8,11 @@ ghost use Rattle.lists.specs.Lists.{both_answer, both_buffer, list_answer, list_
 ghost use Rattle.keyline_memory.specs.State.{held_in, GoodState, Insertion};
 ghost use Rattle.queries.specs.Evaluated.{held_by, GoodEvaluated};
 
-use lists::write::{BothListed, Listed};
-use lookups::lookup::Contained;
-use lookups::put::Looked;
+use keyline::refusal::Refusal;
+use lists::write::Counts;
 use queries::evaluated::Evaluated;
 use store::Store;
-use tables::answer::Answer;
+use tables::answer::Outcome;
 
 #[derive(Clone, Copy)]
 pub struct State {
@@ -22,7 +21,7 @@ pub struct State {
 
 #[derive(Clone, Copy)]
 pub struct Inserted {
-    pub answer: Answer,
+    pub answer: Result<Outcome, Refusal>,
     pub state: State,
 }
 
@@ -87,14 +86,14 @@ impl State {
         queries::evaluated::evaluate(self.store)
     }
 
-    pub fn contains_delegation(self, digest: &[u8]) -> Contained
+    pub fn contains_delegation(self, digest: &[u8]) -> Result<bool, Refusal>
         requires { GoodState self }
         ensures { result ≡ contains_answer (delegation_digests (held_in self)) digest.now }
     {
         lookups::lookup::contains_delegation(self.store, digest)
     }
 
-    pub fn contains_revocation(self, digest: &[u8]) -> Contained
+    pub fn contains_revocation(self, digest: &[u8]) -> Result<bool, Refusal>
         requires { GoodState self }
         ensures { result ≡ contains_answer (revocation_digests (held_in self)) digest.now }
     {
@@ -102,7 +101,7 @@ impl State {
     }
 
     // The issuer and the payload of the delegation with that digest, in two lent buffers.
-    pub fn delegation(self, digest: &[u8], issuer: &mut [u8], payload: &mut [u8]) -> Looked
+    pub fn delegation(self, digest: &[u8], issuer: &mut [u8], payload: &mut [u8]) -> Result<Option<usize>, Refusal>
         requires { GoodState self }
         ensures { (result ≡ look.delegation_lookup (held_in self) digest.now (length issuer.old) (length payload.old)) × (issuer.new ≡ part_buffer result (delegation_with (held_in self) digest.now).issuer issuer.old) × (payload.new ≡ part_buffer result (payload_of (delegation_with (held_in self) digest.now)) payload.old) }
     {
@@ -110,7 +109,7 @@ impl State {
     }
 
     // The issuer and the revoked digest of the revocation with that digest, in two lent buffers.
-    pub fn revocation(self, digest: &[u8], issuer: &mut [u8], revoked: &mut [u8]) -> Looked
+    pub fn revocation(self, digest: &[u8], issuer: &mut [u8], revoked: &mut [u8]) -> Result<Option<usize>, Refusal>
         requires { GoodState self }
         ensures { (result ≡ look.revocation_lookup (held_in self) digest.now (length issuer.old) (length revoked.old)) × (issuer.new ≡ part_buffer result (revocation_with (held_in self) digest.now).issuer issuer.old) × (revoked.new ≡ part_buffer result (revocation_with (held_in self) digest.now).revoked revoked.old) }
     {
@@ -118,7 +117,7 @@ impl State {
     }
 
     // All certificates: delegations ascending, then revocations ascending.
-    pub fn certificates(self, out: &mut [u8]) -> BothListed
+    pub fn certificates(self, out: &mut [u8]) -> Result<Counts, Refusal>
         requires { GoodState self }
         ensures { (result ≡ both_answer (certificate_delegations (held_in self)) (certificate_revocations (held_in self)) (length out.old)) × (out.new ≡ both_buffer result (certificate_delegations (held_in self)) (certificate_revocations (held_in self)) out.old) }
     {
@@ -126,7 +125,7 @@ impl State {
     }
 
     // The subjects of held delegations.
-    pub fn subjects(self, out: &mut [u8]) -> Listed
+    pub fn subjects(self, out: &mut [u8]) -> Result<usize, Refusal>
         requires { GoodState self }
         ensures { (result ≡ list_answer (subjects_of (held_in self)) (length out.old)) × (out.new ≡ list_buffer result (subjects_of (held_in self)) out.old) }
     {
@@ -134,7 +133,7 @@ impl State {
     }
 
     // The held revocations that name the target, which need not be held.
-    pub fn revocations_of(self, target: &[u8], out: &mut [u8]) -> Listed
+    pub fn revocations_of(self, target: &[u8], out: &mut [u8]) -> Result<usize, Refusal>
         requires { GoodState self }
         ensures { (result ≡ length_first target.now (list_answer (revocations_of (held_in self) target.now) (length out.old))) × (out.new ≡ list_buffer result (revocations_of (held_in self) target.now) out.old) }
     {
@@ -142,7 +141,7 @@ impl State {
     }
 
     // The held delegations with that subject and audience.
-    pub fn delegations_to(self, subject: &[u8], audience: &[u8], out: &mut [u8]) -> Listed
+    pub fn delegations_to(self, subject: &[u8], audience: &[u8], out: &mut [u8]) -> Result<usize, Refusal>
         requires { GoodState self }
         ensures { (result ≡ length_first subject.now (length_first audience.now (list_answer (delegations_to (held_in self) subject.now audience.now) (length out.old)))) × (out.new ≡ list_buffer result (delegations_to (held_in self) subject.now audience.now) out.old) }
     {

@@ -4,13 +4,13 @@ ghost use Rattle.std.specs.Prelude.{◌≡◌, length};
 ghost use Rattle.store.specs.Store.{committed, GoodStore};
 ghost use Rattle.lists.specs.Lists.{list_answer, list_buffer, both_answer, both_buffer, length_first, certificate_delegations, certificate_revocations, revocations_of, delegations_to, subjects_of};
 
-use crate::write::{BothListed, Listed};
+use crate::write::Counts;
 use keyline::limits::{DELEGATION_LIMIT, DIGEST_LENGTH, KEY_LENGTH, KEY_LIMIT, REVOCATION_LIMIT};
 use keyline::refusal::Refusal;
 use store::Store;
 
 // All certificates: delegations ascending, then revocations ascending.
-pub fn certificates(s: Store, out: &mut [u8]) -> BothListed
+pub fn certificates(s: Store, out: &mut [u8]) -> Result<Counts, Refusal>
     requires { GoodStore s }
     ensures { (result ≡ both_answer (certificate_delegations (committed s)) (certificate_revocations (committed s)) (length out.old)) × (out.new ≡ both_buffer result (certificate_delegations (committed s)) (certificate_revocations (committed s)) out.old) }
 {
@@ -25,7 +25,7 @@ pub fn certificates(s: Store, out: &mut [u8]) -> BothListed
 }
 
 // The subjects of held delegations.
-pub fn subjects(s: Store, out: &mut [u8]) -> Listed
+pub fn subjects(s: Store, out: &mut [u8]) -> Result<usize, Refusal>
     requires { GoodStore s }
     ensures { (result ≡ list_answer (subjects_of (committed s)) (length out.old)) × (out.new ≡ list_buffer result (subjects_of (committed s)) out.old) }
 {
@@ -39,12 +39,12 @@ pub fn subjects(s: Store, out: &mut [u8]) -> Listed
 }
 
 // The held revocations that name the target, which need not be held.
-pub fn revocations_of(s: Store, target: &[u8], out: &mut [u8]) -> Listed
+pub fn revocations_of(s: Store, target: &[u8], out: &mut [u8]) -> Result<usize, Refusal>
     requires { GoodStore s }
     ensures { (result ≡ length_first target.now (list_answer (revocations_of (committed s) target.now) (length out.old))) × (out.new ≡ list_buffer result (revocations_of (committed s) target.now) out.old) }
 {
     if target.len() != DIGEST_LENGTH {
-        return Listed::Refused(Refusal::BadLength(target.len()));
+        return Err(Refusal::BadLength(target.len()));
     }
     let n = s.revocations.count;
     let revoked = s.revocations.revoked;
@@ -55,15 +55,15 @@ pub fn revocations_of(s: Store, target: &[u8], out: &mut [u8]) -> Listed
 }
 
 // The held delegations with that subject and audience.
-pub fn delegations_to(s: Store, subject: &[u8], audience: &[u8], out: &mut [u8]) -> Listed
+pub fn delegations_to(s: Store, subject: &[u8], audience: &[u8], out: &mut [u8]) -> Result<usize, Refusal>
     requires { GoodStore s }
     ensures { (result ≡ length_first subject.now (length_first audience.now (list_answer (delegations_to (committed s) subject.now audience.now) (length out.old)))) × (out.new ≡ list_buffer result (delegations_to (committed s) subject.now audience.now) out.old) }
 {
     if subject.len() != KEY_LENGTH {
-        return Listed::Refused(Refusal::BadLength(subject.len()));
+        return Err(Refusal::BadLength(subject.len()));
     }
     if audience.len() != KEY_LENGTH {
-        return Listed::Refused(Refusal::BadLength(audience.len()));
+        return Err(Refusal::BadLength(audience.len()));
     }
     let m = s.keys.count;
     let keys = s.keys.table;

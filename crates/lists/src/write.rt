@@ -7,31 +7,25 @@ use keyline::refusal::Refusal;
 use runs::bytes::RUN_LENGTH;
 use runs::list::Chosen;
 
-// How many items, each of 32 bytes.
-#[derive(Clone, Copy)]
-pub enum Listed {
-    Items(usize),
-    Refused(Refusal),
+// How many items two lists have that stand one behind the other.
+#[derive(Clone, Copy, Debug, PartialEq, Eq)]
+pub struct Counts {
+    pub delegations: usize,
+    pub revocations: usize,
 }
 
-// Two lists, one behind the other, and a count for each.
-#[derive(Clone, Copy)]
-pub enum BothListed {
-    Items(usize, usize),
-    Refused(Refusal),
-}
-
-pub fn write_one(table: &[u8], c: Chosen, out: &mut [u8]) -> Listed
+// How many items were written, each of 32 bytes.
+pub fn write_one(table: &[u8], c: Chosen, out: &mut [u8]) -> Result<usize, Refusal>
     requires { Stand table.now c }
     ensures { (result ≡ list_answer (chosen_runs table.now c) (length out.old)) × (out.new ≡ list_buffer result (chosen_runs table.now c) out.old) }
 {
     let k = c.count;
     let n = RUN_LENGTH * k;
     if out.len() < n {
-        return Listed::Refused(Refusal::SmallBuffer(n));
+        return Err(Refusal::SmallBuffer(n));
     }
     runs::list::put_runs(table, &c.places, k, out);
-    Listed::Items(k)
+    Ok(k)
 }
 
 pub fn write_both<'a>(
@@ -40,7 +34,7 @@ pub fn write_both<'a>(
     c: Chosen,
     d: Chosen,
     out: &mut [u8],
-) -> BothListed
+) -> Result<Counts, Refusal>
     requires { Stand table.now c × Stand other.now d }
     ensures { (result ≡ both_answer (chosen_runs table.now c) (chosen_runs other.now d) (length out.old)) × (out.new ≡ both_buffer result (chosen_runs table.now c) (chosen_runs other.now d) out.old) }
 {
@@ -49,9 +43,12 @@ pub fn write_both<'a>(
     let n = RUN_LENGTH * k;
     let e = n + RUN_LENGTH * l;
     if out.len() < e {
-        return BothListed::Refused(Refusal::SmallBuffer(e));
+        return Err(Refusal::SmallBuffer(e));
     }
     runs::list::put_runs(table, &c.places, k, out);
     runs::list::put_runs(other, &d.places, l, &mut out[n..e]);
-    BothListed::Items(k, l)
+    Ok(Counts {
+        delegations: k,
+        revocations: l,
+    })
 }

@@ -26,8 +26,8 @@ use Rattle.tables.specs.Look.{RowFits, row_there}
 use Rattle.tables.specs.declared.delegations.DelegationRow.{DelegationRow}
 use Rattle.tables.proofs.PayloadLaws.{Cited}
 use Rattle.lookups.specs.Lookup.{parts_answer, look_answer}
-use Rattle.lookups.specs.declared.put.Looked.{Looked}
-use Rattle.lookups.specs.declared.put.Looked.TheVariants.{Held, Absent, Refused}
+use Rattle.keyline.specs.declared.refusal.Refusal.{Refusal}
+use Rattle.std.specs.Prelude.{Result, Ok, Err, Option, Some, None}
 
 -- ---- a payload
 encoded_long : (a s c : Bytes) (b : ℕ) → length a ≡ key_length → length s ≡ key_length → length (encoded a s b c) ≡ payload_length + length c
@@ -82,24 +82,24 @@ module _ (k c : Bytes) (at : DelegationPlace) (row : DelegationRow) (f : RowFits
 
 -- ---- answers
 module _ (x y : Bytes) (n m a b : ℕ) (e : length x ≡ a) (f : length y ≡ b) where
-  pub first_small : n < a → parts_answer x y n m ≡ Refused (SmallBuffer a)
+  pub first_small : n < a → parts_answer x y n m ≡ Err (SmallBuffer a)
   unfolding parts_answer
   first_small h = rw (e, lt-ltb _ _ h)
 
-  pub second_small : a ≤ n → m < b → parts_answer x y n m ≡ Refused (SmallBuffer b)
+  pub second_small : a ≤ n → m < b → parts_answer x y n m ≡ Err (SmallBuffer b)
   unfolding parts_answer
   second_small h q = rw (e, le-ltb _ _ h, f, lt-ltb _ _ q)
 
-  pub both_fit : a ≤ n → b ≤ m → parts_answer x y n m ≡ Held b
+  pub both_fit : a ≤ n → b ≤ m → parts_answer x y n m ≡ Ok (Some b)
   unfolding parts_answer
   both_fit h q = rw (e, le-ltb _ _ h, f, le-ltb _ _ q)
 
-module _ (d : Bytes) (t : Looked) where
-  pub look_bad : (held : Bool) → (length d ≡ digest_length → ⊥) → look_answer held d t ≡ Refused (BadLength (length d))
+module _ (d : Bytes) (t : Result (Option ℕ) Refusal) where
+  pub look_bad : (held : Bool) → (length d ≡ digest_length → ⊥) → look_answer held d t ≡ Err (BadLength (length d))
   unfolding look_answer
   look_bad held h = rw (ne_eqb _ _ h)
 
-  pub look_absent : length d ≡ digest_length → look_answer false d t ≡ Absent
+  pub look_absent : length d ≡ digest_length → look_answer false d t ≡ (Ok None)
   unfolding look_answer
   look_absent h = rw (eq-eqb _ _ h)
 

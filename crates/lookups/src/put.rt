@@ -16,13 +16,6 @@ use runs::bytes;
 use runs::bytes::RUN_LENGTH;
 use tables::delegations::DelegationRow;
 
-#[derive(Clone, Copy)]
-pub enum Looked {
-    Held(usize),
-    Absent,
-    Refused(Refusal),
-}
-
 // The run at a place, at the front of the buffer.
 fn put_run<'a>(table: &'a [u8], i: usize, out: &mut [u8])
     requires { RunFits table.now i × (run_length ≤ length out.old) }
@@ -89,21 +82,21 @@ pub fn put_delegation<'a>(
     row: DelegationRow,
     issuer: &mut [u8],
     payload: &mut [u8],
-) -> Looked
+) -> Result<Option<usize>, Refusal>
     requires { RowFits keys.now citations.now at row }
     ensures { (result ≡ parts_answer (run_at keys.now row.issuer.0) (payload_of (row_there keys.now citations.now at row)) (length issuer.old) (length payload.old)) × (issuer.new ≡ part_buffer result (run_at keys.now row.issuer.0) issuer.old) × (payload.new ≡ part_buffer result (payload_of (row_there keys.now citations.now at row)) payload.old) }
 {
     if issuer.len() < KEY_LENGTH {
-        return Looked::Refused(Refusal::SmallBuffer(KEY_LENGTH));
+        return Err(Refusal::SmallBuffer(KEY_LENGTH));
     }
     let n = PAYLOAD_LENGTH + citation_length(row.cited);
     if payload.len() < n {
-        return Looked::Refused(Refusal::SmallBuffer(n));
+        return Err(Refusal::SmallBuffer(n));
     }
     let i = row.issuer;
     put_run(keys, i.0, issuer);
     put_payload(keys, citations, at, row, payload);
-    Looked::Held(n)
+    Ok(Some(n))
 }
 
 // Issuer and revoked digest.
@@ -114,17 +107,17 @@ pub fn put_revocation<'a>(
     by: KeyPlace,
     issuer: &mut [u8],
     revoked: &mut [u8],
-) -> Looked
+) -> Result<Option<usize>, Refusal>
     requires { RevocationFits keys.now column.now at by }
     ensures { (result ≡ parts_answer (run_at keys.now by.0) (run_at column.now at.0) (length issuer.old) (length revoked.old)) × (issuer.new ≡ part_buffer result (run_at keys.now by.0) issuer.old) × (revoked.new ≡ part_buffer result (run_at column.now at.0) revoked.old) }
 {
     if issuer.len() < KEY_LENGTH {
-        return Looked::Refused(Refusal::SmallBuffer(KEY_LENGTH));
+        return Err(Refusal::SmallBuffer(KEY_LENGTH));
     }
     if revoked.len() < DIGEST_LENGTH {
-        return Looked::Refused(Refusal::SmallBuffer(DIGEST_LENGTH));
+        return Err(Refusal::SmallBuffer(DIGEST_LENGTH));
     }
     put_run(keys, by.0, issuer);
     put_run(column, at.0, revoked);
-    Looked::Held(DIGEST_LENGTH)
+    Ok(Some(DIGEST_LENGTH))
 }

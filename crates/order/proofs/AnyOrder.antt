@@ -16,23 +16,24 @@ use Rattle.runs.specs.Members.{has, fresh}
 use Rattle.runs.proofs.FreshLaws.{none_distinct}
 use Rattle.tables.specs.Committed.{Delegation, Revocation, Committed, nothing, no_delegation, no_revocation, delegation_digests, revocation_digests, delegation_with, revocation_with, delegation_keys, revocation_keys, keys_of, keys_in, keys, same_content, same_revoked}
 use Rattle.tables.specs.Insertion.{delegation_answer, delegation_check, accepted_answer, keys_answer, delegation_from, revocation_answer, revocation_check, revocation_settled, revocation_from}
-use Rattle.tables.specs.declared.answer.Answer.TheVariants.{Added, NotAdded}
 use Rattle.tables.proofs.ContentLaws.{same_content_lem, same_revoked_lem}
 use Rattle.order.specs.AnyOrder.{Certificate, delegation, revocation, answer_to, held_after, held_after_all, is_refused, none_refused, Among, SameHeld}
 use Rattle.order.proofs.Inserting.{found, one_each, fewer, Within, del_key, rev_key, keys_fit}
 use Rattle.order.proofs.Entries.{Reads, Names, SaysDel, delegates, SaysRev, revokes, Built, entry, keeps, only_delegations, only_revocations, one_saying, one_naming, Said, by_delegation, by_revocation, says, built}
+use Rattle.tables.specs.declared.answer.Outcome.TheVariants.{Added, NotAdded}
+use Rattle.std.specs.Prelude.{Ok}
 
 -- ## One insertion that another set has room for
 -- ---- the answer, from what it rests on
 module _ (c : Committed) (d i p : Bytes) (g : Delegation) (r : Reads d i p g) where
-  known_delegation : has (delegation_digests c) d ≡ true → delegation_with c d ≡ g → delegation_answer c d i p ≡ NotAdded
+  known_delegation : has (delegation_digests c) d ≡ true → delegation_with c d ≡ g → delegation_answer c d i p ≡ (Ok NotAdded)
   unfolding delegation_check accepted_answer
   known_delegation h o =
       let s : same_content (delegation_with c d) (delegation_from d i p r.power) ≡ true = rw (o, r.is) (same_content_lem _ _ refl refl) in
       rw (eq-eqb (length d) digest_length r.digest, eq-eqb (length i) key_length r.issuer, r.read, h, s)
 
   fresh_delegation : has (delegation_digests c) d ≡ false → length c.delegations < delegation_limit
-      → length (keys c) + length (fresh (keys c) (delegation_keys (delegation_from d i p r.power))) ≤ key_limit → delegation_answer c d i p ≡ Added
+      → length (keys c) + length (fresh (keys c) (delegation_keys (delegation_from d i p r.power))) ≤ key_limit → delegation_answer c d i p ≡ (Ok Added)
   unfolding delegation_check accepted_answer keys_answer
   fresh_delegation h l k =
       rw (
@@ -45,14 +46,14 @@ module _ (c : Committed) (d i p : Bytes) (g : Delegation) (r : Reads d i p g) wh
       )
 
 module _ (c : Committed) (d i x : Bytes) (v : Revocation) (r : Names d i x v) where
-  known_revocation : has (revocation_digests c) d ≡ true → revocation_with c d ≡ v → revocation_answer c d i x ≡ NotAdded
+  known_revocation : has (revocation_digests c) d ≡ true → revocation_with c d ≡ v → revocation_answer c d i x ≡ (Ok NotAdded)
   unfolding revocation_check revocation_settled
   known_revocation h o =
       let s : same_revoked (revocation_with c d) (revocation_from d i x) ≡ true = rw (o, r.is) (same_revoked_lem _ _ refl refl) in
       rw (eq-eqb (length d) digest_length r.digest, eq-eqb (length i) key_length r.issuer, eq-eqb (length x) digest_length r.revoked, h, s)
 
   fresh_revocation : has (revocation_digests c) d ≡ false → length c.revocations < revocation_limit
-      → length (keys c) + length (fresh (keys c) (revocation_keys (revocation_from d i x))) ≤ key_limit → revocation_answer c d i x ≡ Added
+      → length (keys c) + length (fresh (keys c) (revocation_keys (revocation_from d i x))) ≤ key_limit → revocation_answer c d i x ≡ (Ok Added)
   unfolding revocation_check revocation_settled keys_answer
   fresh_revocation h l k =
       rw (

@@ -25,14 +25,15 @@ use Rattle.runs.proofs.BoolLaws.{both_true}
 use Rattle.runs.proofs.ByteLaws.{eq_true}
 use Rattle.tables.specs.Committed.{Delegation, Revocation, Committed, no_delegation, no_revocation, delegation_digests, revocation_digests, delegation_with, revocation_with, delegation_keys, revocation_keys, keys, same_content, same_parts, same_revoked}
 use Rattle.tables.specs.Insertion.{Seen, seen_delegation, seen_revocation, held_answer, keys_answer, accepted_answer, payload_answer, delegation_from, delegation_check, delegation_answer, delegation_added, with_delegation, revocation_from, revocation_settled, revocation_check, revocation_answer, revocation_added, with_revocation, read_delegation, settled}
-use Rattle.tables.specs.declared.answer.Answer.{Answer}
-use Rattle.tables.specs.declared.answer.Answer.TheVariants.{Added, NotAdded, Refused}
 use Rattle.store.proofs.MadeLaws.{delegation_made, revocation_made}
 use Rattle.insertion.proofs.AnswerLaws.{delegation_added_lem, revocation_added_lem}
 use Rattle.tables.proofs.ContentLaws.{content_parts, revoked_parts}
 use Rattle.tables.proofs.PayloadLaws.{parts}
 use Rattle.order.specs.AnyOrder.{Certificate, delegation, revocation, answer_to, held_after, is_refused}
 use Rattle.order.proofs.Inserting.{found, more_distinct, Within, del_key, rev_key, key_of, keys_few}
+use Rattle.tables.specs.declared.answer.Outcome.{Outcome}
+use Rattle.tables.specs.declared.answer.Outcome.TheVariants.{Added, NotAdded}
+use Rattle.std.specs.Prelude.{Result, Ok, Err}
 
 -- ## What a certificate says
 pub record Reads (d i p : Bytes) (g : Delegation) : Type 0 where
@@ -92,26 +93,26 @@ same_one g h q l m e =
     one_delegation g h q (eq_true _ _ a.0) (eq_true _ _ b.0) (eq_true _ _ c.0) (same_rank _ _ (eqb-true _ _ d.0)) (eq_true _ _ d.1)
 
 -- ---- what NotAdded means
-not_refused_lem : {r : Refusal} → Refused r ≡ NotAdded → ⊥
+not_refused_lem : {r : Refusal} → Err r ≡ (Ok NotAdded) → ⊥
 not_refused_lem e = let z : ◌≡◌ {A = ℕ} 0 1 = cc in omega arith
 
-passed : (t : Bool) (a : Answer) (r : Refusal) → cond t a (Refused r) ≡ NotAdded → (t ≡ true) × (a ≡ NotAdded)
+passed : (t : Bool) (a : Result Outcome Refusal) (r : Refusal) → cond t a (Err r) ≡ (Ok NotAdded) → (t ≡ true) × (a ≡ (Ok NotAdded))
 passed true a r h = (refl, h)
 passed false a r h = absurd (not_refused_lem h)
 
-equal_content : (t : Bool) → held_answer t ≡ NotAdded → t ≡ true
+equal_content : (t : Bool) → held_answer t ≡ (Ok NotAdded) → t ≡ true
 equal_content true h = refl
 equal_content false h = absurd (not_refused_lem h)
 
-never_keys : (l ks : List Bytes) → keys_answer l ks ≡ NotAdded → ⊥
+never_keys : (l ks : List Bytes) → keys_answer l ks ≡ (Ok NotAdded) → ⊥
 unfolding keys_answer
 never_keys l ks h = go (ltb key_limit (length l + length (fresh l ks))) h
   where
-    go : (t : Bool) → cond t (Refused (FullKeys (length (fresh l ks)))) Added ≡ NotAdded → ⊥
+    go : (t : Bool) → cond t (Err (FullKeys (length (fresh l ks)))) (Ok Added) ≡ (Ok NotAdded) → ⊥
     go true k = not_refused_lem k
     go false k = let z : ◌≡◌ {A = ℕ} 0 1 = cc in omega arith
 
-held_content : (t u n : Bool) (a : Answer) (r : Refusal) → (a ≡ NotAdded → ⊥) → cond t (held_answer u) (cond n a (Refused r)) ≡ NotAdded → (t ≡ true) × (u ≡ true)
+held_content : (t u n : Bool) (a : Result Outcome Refusal) (r : Refusal) → (a ≡ (Ok NotAdded) → ⊥) → cond t (held_answer u) (cond n a (Err r)) ≡ (Ok NotAdded) → (t ≡ true) × (u ≡ true)
 held_content true u n a r f h = (refl, equal_content u h)
 held_content false u true a r f h = absurd (f h)
 held_content false u false a r f h = absurd (not_refused_lem h)
@@ -125,14 +126,14 @@ record KnownDelegation (v : Seen Delegation) (d i p : Bytes) : Type 0 where
   pub held : v.held ≡ true
   pub same : same_content v.other (delegation_from d i p power) ≡ true
 
-delegation_known : (v : Seen Delegation) (d i p : Bytes) → delegation_check v d i p ≡ NotAdded → KnownDelegation v d i p
+delegation_known : (v : Seen Delegation) (d i p : Bytes) → delegation_check v d i p ≡ (Ok NotAdded) → KnownDelegation v d i p
 unfolding delegation_check accepted_answer
 delegation_known v d i p h =
     let a = passed (eqb (length d) digest_length) _ _ h in
     let b = passed (eqb (length i) key_length) _ _ a.1 in
     go (decoded p) refl (eqb-true (length d) digest_length a.0) (eqb-true (length i) key_length b.0) b.1
   where
-    go : (r : Decoded) → decoded p ≡ r → length d ≡ digest_length → length i ≡ key_length → payload_answer r v d i p ≡ NotAdded → KnownDelegation v d i p
+    go : (r : Decoded) → decoded p ≡ r → length d ≡ digest_length → length i ≡ key_length → payload_answer r v d i p ≡ (Ok NotAdded) → KnownDelegation v d i p
     go (reading.Refused r) e x y k = absurd (not_refused_lem k)
     go (reading.Accepted w t) e x y k =
         let g = delegation_from d i p w in
@@ -144,7 +145,7 @@ record KnownRevocation (v : Seen Revocation) (d i x : Bytes) : Type 0 where
   pub held : v.held ≡ true
   pub same : same_revoked v.other (revocation_from d i x) ≡ true
 
-revocation_known : (v : Seen Revocation) (d i x : Bytes) → revocation_check v d i x ≡ NotAdded → KnownRevocation v d i x
+revocation_known : (v : Seen Revocation) (d i x : Bytes) → revocation_check v d i x ≡ (Ok NotAdded) → KnownRevocation v d i x
 unfolding revocation_check revocation_settled
 revocation_known v d i x h =
     let a = passed (eqb (length d) digest_length) _ _ h in
@@ -163,14 +164,14 @@ module _ (c : Committed) (b : Built c) where
   delegation_entry : (d i p : Bytes) → is_refused (delegation_answer c d i p) ≡ false → Entry c (delegation d i p) (settled (delegation_answer c d i p) c (delegation_added c d i p))
   delegation_entry d i p h = go (delegation_answer c d i p) refl h
     where
-      go : (a : Answer) → delegation_answer c d i p ≡ a → is_refused a ≡ false → Entry c (delegation d i p) (settled a c (delegation_added c d i p))
-      go (Refused r) e k = absurd (false≢true (sym k))
-      go Added e k =
+      go : (a : Result Outcome Refusal) → delegation_answer c d i p ≡ a → is_refused a ≡ false → Entry c (delegation d i p) (settled a c (delegation_added c d i p))
+      go (Err r) e k = absurd (false≢true (sym k))
+      go (Ok Added) e k =
           let q = delegation_added_lem (seen_delegation c d) d i p e in
           let g = delegation_from d i p q.power in
           let r : Reads d i p g = record { digest = q.digest; issuer = q.issuer; power = q.power; tag = q.tag; read = q.read; is = refl } in
           subst (λ (y : Decoded). Entry c (delegation d i p) (with_delegation c (read_delegation y d i p))) (sym q.read) (new_delegation r q.new q.room q.keys)
-      go NotAdded e k =
+      go (Ok NotAdded) e k =
           let q = delegation_known (seen_delegation c d) d i p e in
           let g = delegation_from d i p q.power in
           let o = found (λ x. x.digest) c.delegations d no_delegation q.held in
@@ -182,12 +183,12 @@ module _ (c : Committed) (b : Built c) where
   revocation_entry : (d i x : Bytes) → is_refused (revocation_answer c d i x) ≡ false → Entry c (revocation d i x) (settled (revocation_answer c d i x) c (revocation_added c d i x))
   revocation_entry d i x h = go (revocation_answer c d i x) refl h
     where
-      go : (a : Answer) → revocation_answer c d i x ≡ a → is_refused a ≡ false → Entry c (revocation d i x) (settled a c (revocation_added c d i x))
-      go (Refused r) e k = absurd (false≢true (sym k))
-      go Added e k =
+      go : (a : Result Outcome Refusal) → revocation_answer c d i x ≡ a → is_refused a ≡ false → Entry c (revocation d i x) (settled a c (revocation_added c d i x))
+      go (Err r) e k = absurd (false≢true (sym k))
+      go (Ok Added) e k =
           let q = revocation_added_lem (seen_revocation c d) d i x e in
           new_revocation (record { digest = q.digest; issuer = q.issuer; revoked = q.revoked; is = refl }) q.new q.room q.keys
-      go NotAdded e k =
+      go (Ok NotAdded) e k =
           let q = revocation_known (seen_revocation c d) d i x e in
           let o = found (λ y. y.digest) c.revocations d no_revocation q.held in
           let m = revoked_parts (revocation_with c d) (revocation_from d i x) q.same in

@@ -1,22 +1,22 @@
 -- The order in which certificates come does not matter: what that says. `any_order` of proofs/AnyOrder proves it of what is held, and
 -- `states_agree` of proofs/SameSets of States and of every answer.
-use Rattle.std.specs.Prelude.{Bool, true, false, cond, ◌↔◌, ◌≡◌}
+use Rattle.std.specs.Prelude.{Bool, true, false, cond, ◌↔◌, ◌≡◌, Result, Ok, Err, Option}
 use mathlib.Core.List.{List, [], ◌∷◌, ◌++◌, Memᴰ}
 use Rattle.runs.specs.Bytes.{Bytes}
 use Rattle.runs.specs.Members.{has}
 use Rattle.tables.specs.Committed.{Delegation, Revocation, Committed, nothing, length_of, delegation_digests, revocation_digests, delegation_with, revocation_with}
 use Rattle.tables.specs.Insertion.{delegation_answer, delegation_added, revocation_answer, revocation_added, settled}
-use Rattle.tables.specs.declared.answer.Answer.{Answer}
-use Rattle.tables.specs.declared.answer.Answer.TheVariants.{Added, NotAdded, Refused}
 use Rattle.lists.specs.Lists.{certificate_delegations, certificate_revocations, subjects_of, revocations_of, delegations_to}
 use Rattle.keyline_memory.specs.State.{held_in, GoodState, Insertion}
 use Rattle.answers.specs.Answers.{IsLive, ConveyedPower, StandingAnswer}
 use Rattle.answers.specs.OneClosure.{SameAnswers}
 use Rattle.keyline_memory.specs.declared.state.State.{State}
 use Rattle.keyline_memory.specs.declared.state.Inserted.{Inserted}
-use Rattle.answers.specs.declared.answer.Powered.{Powered}
-use Rattle.answers.specs.declared.answer.Liveness.{Liveness}
-use Rattle.answers.specs.declared.answer.Stood.{Stood}
+use Rattle.tables.specs.declared.answer.Outcome.{Outcome}
+use Rattle.keyline.specs.declared.refusal.Refusal.{Refusal}
+use Rattle.tables.specs.declared.answer.Outcome.TheVariants.{Added, NotAdded}
+use Rattle.power_levels.specs.declared.power.Power.{Power}
+use Rattle.keyline.specs.declared.standing.Standing.{Standing}
 
 -- ## Certificates one after the other
 -- "A delegation comes as digest, issuer and payload; a revocation as digest, issuer and the digest it revokes."
@@ -25,7 +25,7 @@ pub data Certificate : Type 0 where
   revocation : Bytes → Bytes → Bytes → Certificate
 
 -- the answer to its insertion into c
-unfoldable pub answer_to : Committed → Certificate → Answer
+unfoldable pub answer_to : Committed → Certificate → Result Outcome Refusal
 answer_to c (delegation d i p) = delegation_answer c d i p
 answer_to c (revocation d i x) = revocation_answer c d i x
 
@@ -39,10 +39,10 @@ unfoldable pub held_after_all : Committed → List Certificate → Committed
 held_after_all c [] = c
 held_after_all c (k ∷ ks) = held_after_all (held_after c k) ks
 
-abbrev pub is_refused : Answer → Bool
-is_refused Added = false
-is_refused NotAdded = false
-is_refused (Refused r) = true
+abbrev pub is_refused : Result Outcome Refusal → Bool
+is_refused (Ok Added) = false
+is_refused (Ok NotAdded) = false
+is_refused (Err r) = true
 
 -- each of them is added, or is there already with equal content
 unfoldable pub none_refused : Committed → List Certificate → Bool
@@ -73,9 +73,9 @@ pub record SameSets (A B : Committed) : Type 0 where
   -- powers, members and closures of every key
   pub answers : (s : Bytes) → SameAnswers A B s
   -- of every digest, held or not
-  pub live : (x : Bytes) (r q : Liveness) → IsLive A x r → IsLive B x q → r ≡ q
-  pub conveyed : (x : Bytes) (r q : Powered) → ConveyedPower A x r → ConveyedPower B x q → r ≡ q
-  pub standing : (x : Bytes) (r q : Stood) → StandingAnswer A x r → StandingAnswer B x q → r ≡ q
+  pub live : (x : Bytes) (r q : Result Bool Refusal) → IsLive A x r → IsLive B x q → r ≡ q
+  pub conveyed : (x : Bytes) (r q : Result (Option Power) Refusal) → ConveyedPower A x r → ConveyedPower B x q → r ≡ q
+  pub standing : (x : Bytes) (r q : Result (Option Standing) Refusal) → StandingAnswer A x r → StandingAnswer B x q → r ≡ q
   -- `len` and `version`
   pub len : length_of A ≡ length_of B
   -- the lists

@@ -8,10 +8,11 @@ ghost use Rattle.answers.specs.Sought.{DelegationOf};
 ghost use Rattle.store.specs.Store.{committed};
 ghost use Rattle.powers.specs.EvaluationOf.{EvaluationOf};
 
-use answers::answer::Powered;
-use answers::sought::{Pair, SoughtDelegation};
+use answers::sought::Pair;
 use answers::{answer, sought};
 use evaluation::Evaluation;
+use keyline::refusal::Refusal;
+use places::DelegationPlace;
 use power_levels::power::Power;
 use store::Store;
 
@@ -21,19 +22,18 @@ pub fn positive_power(
     evaluation: Evaluation,
     subject: &[u8],
     audience: &[u8],
-) -> Powered
+) -> Result<Option<Power>, Refusal>
     requires { EvaluationOf store evaluation }
     ensures { PositivePower (committed store) subject.now audience.now result }
 {
     let n = store.keys.count;
     let table = store.keys.table;
-    let asked = sought::seek_pair(&table, n, subject, audience);
+    let asked = sought::seek_pair(&table, n, subject, audience)?;
     match asked {
-        Pair::Refused(why) => Powered::Refused(why),
-        Pair::Same => Powered::Level(Power::Admin),
-        Pair::Unheld => Powered::Nothing,
+        Pair::Same => Ok(Some(Power::Admin)),
+        Pair::Unheld => Ok(None),
         Pair::At(s, x) => {
-            answer::level_of(evaluation::positive::positive_power(evaluation, s, x))
+            Ok(answer::level_of(evaluation::positive::positive_power(evaluation, s, x)))
         }
     }
 }
@@ -44,21 +44,20 @@ pub fn effective_power(
     evaluation: Evaluation,
     subject: &[u8],
     audience: &[u8],
-) -> Powered
+) -> Result<Option<Power>, Refusal>
     requires { EvaluationOf store evaluation }
     ensures { EffectivePower (committed store) subject.now audience.now result }
 {
     let n = store.keys.count;
     let table = store.keys.table;
-    let asked = sought::seek_pair(&table, n, subject, audience);
+    let asked = sought::seek_pair(&table, n, subject, audience)?;
     match asked {
-        Pair::Refused(why) => Powered::Refused(why),
-        Pair::Same => Powered::Level(Power::Admin),
-        Pair::Unheld => Powered::Nothing,
+        Pair::Same => Ok(Some(Power::Admin)),
+        Pair::Unheld => Ok(None),
         Pair::At(s, x) => {
             let row = evaluation::levels::levels(evaluation, s);
             let k = x.0;
-            answer::level_of(row[k])
+            Ok(answer::level_of(row[k]))
         }
     }
 }
@@ -67,17 +66,16 @@ pub fn effective_power(
 pub fn conveyed_power(
     store: Store,
     evaluation: Evaluation,
-    asked: SoughtDelegation,
+    asked: Result<Option<DelegationPlace>, Refusal>,
     digest: &[u8],
-) -> Powered
+) -> Result<Option<Power>, Refusal>
     requires { EvaluationOf store evaluation × DelegationOf store.delegations.digests store.delegations.count digest.now asked }
     ensures { ConveyedPower (committed store) digest.now result }
 {
-    match asked {
-        SoughtDelegation::Refused(why) => Powered::Refused(why),
-        SoughtDelegation::Unheld => Powered::Nothing,
-        SoughtDelegation::At(d) => {
-            answer::level_of(evaluation::conveyed::conveyed_power(evaluation, d))
+    match asked? {
+        None => Ok(None),
+        Some(d) => {
+            Ok(answer::level_of(evaluation::conveyed::conveyed_power(evaluation, d)))
         }
     }
 }

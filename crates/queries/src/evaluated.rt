@@ -9,13 +9,14 @@ ghost use Rattle.answers.specs.Sought.{DelegationOf};
 ghost use Rattle.store.specs.Store.{committed, GoodStore};
 ghost use Rattle.queries.specs.Evaluated.{held_by, GoodEvaluated};
 
-use answers::answer::{Liveness, Powered, Stood};
-use answers::sought::SoughtDelegation;
 use answers::{answer, facts, sought};
 use evaluation::Evaluation;
 use hints::{BACK, FRONT, Hints};
-use lists::write::{BothListed, Listed};
+use keyline::refusal::Refusal;
+use keyline::standing::Standing;
+use lists::write::Counts;
 use places::{DelegationPlace, KeyPlace};
+use power_levels::power::Power;
 use store::Store;
 
 #[derive(Clone, Copy)]
@@ -45,7 +46,7 @@ pub fn evaluate(store: Store) -> Evaluated
 
 impl Evaluated {
     // Where the delegation stands: as one of two hints has it, else as its digest is found.
-    fn seek_delegation(self, digest: &[u8]) -> SoughtDelegation
+    fn seek_delegation(self, digest: &[u8]) -> Result<Option<DelegationPlace>, Refusal>
         requires { GoodEvaluated self }
         ensures { DelegationOf self.store.delegations.digests self.store.delegations.count digest.now result }
     {
@@ -54,20 +55,20 @@ impl Evaluated {
         let front = self.front.delegations;
         let d = hints::look(&digests, n, &front, FRONT, digest);
         if d < n {
-            return SoughtDelegation::At(DelegationPlace(d));
+            return Ok(Some(DelegationPlace(d)));
         }
         let digests = self.store.delegations.digests;
         let back = self.back.delegations;
         let d = hints::look(&digests, n, &back, BACK, digest);
         if d < n {
-            return SoughtDelegation::At(DelegationPlace(d));
+            return Ok(Some(DelegationPlace(d)));
         }
         let digests = self.store.delegations.digests;
         sought::seek_delegation(&digests, n, digest)
     }
 
     // The audience's power over the subject, were nothing ever revoked.
-    pub fn positive_power(self, subject: &[u8], audience: &[u8]) -> Powered
+    pub fn positive_power(self, subject: &[u8], audience: &[u8]) -> Result<Option<Power>, Refusal>
         requires { GoodEvaluated self }
         ensures { PositivePower (held_by self) subject.now audience.now result }
     {
@@ -83,7 +84,7 @@ impl Evaluated {
                     KeyPlace(s),
                     KeyPlace(x),
                 );
-                return answer::level_of(p);
+                return Ok(answer::level_of(p));
             }
         }
         let table = self.store.keys.table;
@@ -97,28 +98,25 @@ impl Evaluated {
                     KeyPlace(s),
                     KeyPlace(x),
                 );
-                return answer::level_of(p);
+                return Ok(answer::level_of(p));
             }
         }
         powers::positive_power(self.store, self.evaluation, subject, audience)
     }
 
     // The audience's power over the subject.
-    pub fn effective_power(self, subject: &[u8], audience: &[u8]) -> Powered
+    pub fn effective_power(self, subject: &[u8], audience: &[u8]) -> Result<Option<Power>, Refusal>
         requires { GoodEvaluated self }
         ensures { EffectivePower (held_by self) subject.now audience.now result }
     {
-        match self.positive_power(subject, audience) {
-            Powered::Refused(why) => Powered::Refused(why),
-            Powered::Nothing => Powered::Nothing,
-            Powered::Level(_) => {
-                powers::effective_power(self.store, self.evaluation, subject, audience)
-            }
+        match self.positive_power(subject, audience)? {
+            None => Ok(None),
+            Some(_) => powers::effective_power(self.store, self.evaluation, subject, audience),
         }
     }
 
     // What the delegation conveys.
-    pub fn conveyed_power(self, digest: &[u8]) -> Powered
+    pub fn conveyed_power(self, digest: &[u8]) -> Result<Option<Power>, Refusal>
         requires { GoodEvaluated self }
         ensures { ConveyedPower (held_by self) digest.now result }
     {
@@ -127,7 +125,7 @@ impl Evaluated {
     }
 
     // Live, revoked or unsupported.
-    pub fn standing(self, digest: &[u8]) -> Stood
+    pub fn standing(self, digest: &[u8]) -> Result<Option<Standing>, Refusal>
         requires { GoodEvaluated self }
         ensures { StandingAnswer (held_by self) digest.now result }
     {
@@ -136,7 +134,7 @@ impl Evaluated {
     }
 
     // Whether the delegation is live.
-    pub fn is_live(self, digest: &[u8]) -> Liveness
+    pub fn is_live(self, digest: &[u8]) -> Result<bool, Refusal>
         requires { GoodEvaluated self }
         ensures { IsLive (held_by self) digest.now result }
     {
@@ -145,7 +143,7 @@ impl Evaluated {
     }
 
     // The members of the subject, ascending: keys in one buffer, power bytes in another. The count comes from ones.
-    pub fn members(self, subject: &[u8], keys: &mut [u8], powers: &mut [u8]) -> Listed
+    pub fn members(self, subject: &[u8], keys: &mut [u8], powers: &mut [u8]) -> Result<usize, Refusal>
         requires { GoodEvaluated self }
         ensures { MembersAnswer (held_by self) subject.now keys.old powers.old result keys.new powers.new }
     {
@@ -153,7 +151,7 @@ impl Evaluated {
     }
 
     // Every held delegation whose subject is the one given or stands positively over it, and every held revocation that names one of them.
-    pub fn closure(self, subject: &[u8], out: &mut [u8]) -> BothListed
+    pub fn closure(self, subject: &[u8], out: &mut [u8]) -> Result<Counts, Refusal>
         requires { GoodEvaluated self }
         ensures { ClosureAnswer (held_by self) subject.now out.old result out.new }
     {

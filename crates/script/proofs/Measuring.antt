@@ -11,9 +11,8 @@ use Rattle.wire.specs.Reply.{head_length}
 use Rattle.wire.specs.Request.{header_length, longest, other_limit, Script, ended, next, Malformed, here, later, StepOf, whole, refused}
 use Rattle.script.specs.Run.{MeasuredAs}
 use Rattle.script.specs.Run as run
-use Rattle.wire.specs.declared.request.Step.{Step}
-use Rattle.wire.specs.declared.request.Step.TheVariants as step
-use Rattle.script.specs.declared.run.Measured.TheVariants as measured
+use Rattle.wire.specs.declared.request.Sizes.{Sizes}
+use Rattle.std.specs.Prelude.{Result, Ok, Err}
 
 -- the rest of s, as it is lent
 pub rest_lent : (s : Bytes) (at : ℕ) → at ≤ length s → mid_of at (length s - at) s ≡ drop at s
@@ -41,11 +40,11 @@ pub record StepFacts (t : Bytes) (l m : ℕ) : Type 0 where
   pub some : header_length ≤ l
   pub few : m ≤ largest
 
-pub step_facts : {t : Bytes} {l m : ℕ} → StepOf t (step.Whole l m) → StepFacts t l m
+pub step_facts : {t : Bytes} {l m : ℕ} → StepOf t (Ok (record { request = l; reply = m })) → StepFacts t l m
 step_facts (whole w b) = record { within = w.all; some = omega arith; few = let x = b.room in let y = b.other in omega arith }
 
 -- one request more
-pub go_on : {s : Bytes} {at n l m : ℕ} → Measuring s at n → StepOf (drop at s) (step.Whole l m) → Measuring s (at + l) (n + m)
+pub go_on : {s : Bytes} {at n l m : ℕ} → Measuring s at n → StepOf (drop at s) (Ok (record { request = l; reply = m })) → Measuring s (at + l) (n + m)
 go_on {s} {at} {n} {l} {m} i t =
     let f = step_facts t in
     let a = f.within in
@@ -64,20 +63,20 @@ go_on {s} {at} {n} {l} {m} i t =
     grow : (at n l m : ℕ) → n ≤ largest * at → m ≤ largest → header_length ≤ l → n + m ≤ largest * (at + l)
     grow at n l m g d b = omega arith
 
-    script : {t : Bytes} {l m k : ℕ} → StepOf t (step.Whole l m) → Script (drop l t) k → Script t (m + k)
+    script : {t : Bytes} {l m k : ℕ} → StepOf t (Ok (record { request = l; reply = m })) → Script (drop l t) k → Script t (m + k)
     script (whole w b) r = next w r
 
-    faulty : {t : Bytes} {l m : ℕ} {why : Refusal} → StepOf t (step.Whole l m) → Malformed (drop l t) why → Malformed t why
+    faulty : {t : Bytes} {l m : ℕ} {why : Refusal} → StepOf t (Ok (record { request = l; reply = m })) → Malformed (drop l t) why → Malformed t why
     faulty (whole w b) r = later w r
 
-pub all_read : {s : Bytes} {at n : ℕ} → Measuring s at n → length s ≤ at → MeasuredAs s (measured.Needs n)
+pub all_read : {s : Bytes} {at n : ℕ} → Measuring s at n → length s ≤ at → MeasuredAs s (Ok n)
 all_read {s} {at} {n} i h =
     let e : n + 0 ≡ n = omega arith in
     run.needs (subst (Script s) e (i.so_far 0 (subst (λ x. Script x 0) (sym (drop_of_length-le s {i = at} h)) ended)))
 
-pub no_request : {s : Bytes} {at n : ℕ} {why : Refusal} → Measuring s at n → StepOf (drop at s) (step.Refused why) → MeasuredAs s (measured.Refused why)
+pub no_request : {s : Bytes} {at n : ℕ} {why : Refusal} → Measuring s at n → StepOf (drop at s) (Err why) → MeasuredAs s (Err why)
 no_request i (refused r) = run.refused (i.fault _ (here r))
 
 -- what the code was told of the rest, as it is lent
-pub told : (s : Bytes) (at : ℕ) {r q : Step} → at ≤ length s → StepOf (mid_of at (length s - at) s) r → r ≡ q → StepOf (drop at s) q
+pub told : (s : Bytes) (at : ℕ) {r q : Result Sizes Refusal} → at ≤ length s → StepOf (mid_of at (length s - at) s) r → r ≡ q → StepOf (drop at s) q
 told s at {r} {q} h t e = subst (λ x. StepOf x q) (rest_lent s at h) (subst (λ x. StepOf (mid_of at (length s - at) s) x) e t)

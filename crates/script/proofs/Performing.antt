@@ -9,7 +9,6 @@ use borrow.Rule.Slice.PartMut.{mid_of, put_mid}
 use Rattle.runs.specs.Bytes.{Bytes}
 use Rattle.tables.specs.Committed.{Committed, nothing}
 use Rattle.tables.specs.Insertion.{settled}
-use Rattle.tables.specs.declared.answer.Answer.{Answer}
 use Rattle.keyline_memory.specs.State.{held_in, GoodState, Insertion}
 use Rattle.queries.specs.Evaluated.{held_by, GoodEvaluated}
 use Rattle.keyline_memory.specs.declared.state.State.{State}
@@ -23,9 +22,6 @@ use Rattle.script.specs.Run as run
 use Rattle.keyline.specs.declared.refusal.Refusal.{Refusal}
 use Rattle.wire.specs.declared.request.Request.{Request}
 use Rattle.wire.specs.declared.reply.Reply.{Reply}
-use Rattle.script.specs.declared.run.Measured.{Measured}
-use Rattle.script.specs.declared.run.Measured.TheVariants as measured
-use Rattle.script.specs.declared.run.Ran.TheVariants as ran
 use Rattle.wire.specs.Operation.{is_known}
 use Rattle.wire.specs.declared.operation.Change.{Change}
 use Rattle.wire.specs.declared.operation.Change.TheVariants as change
@@ -34,6 +30,8 @@ use Rattle.wire.specs.declared.operation.OfEvaluated.{OfEvaluated}
 use Rattle.wire.specs.declared.operation.Operation.TheVariants as operation
 use Rattle.script.proofs.Measuring.{rest_lent}
 use mathlib.Core.Bool.{true, false}
+use Rattle.tables.specs.declared.answer.Outcome.{Outcome}
+use Rattle.std.specs.Prelude.{Result, Ok, Err}
 
 -- ---- lists
 drop_take : (m k : ℕ) (x : Bytes) → m ≤ length x → drop m (take (m + k) x) ≡ take k (drop m x)
@@ -181,7 +179,7 @@ module _ {s o₀ o : Bytes} {state : State} {evaluated : Evaluated} {at done : �
   renewed e g h n r = changed e g n (replied run.new h r)
 
   -- an insertion, whose set is the one afterwards
-  pub inserted : {a : Answer} {new : Committed} {w : Change}
+  pub inserted : {a : Result Outcome Refusal} {new : Committed} {w : Change}
       → Changes (held_in state) (first_part (mid_of at (length s - at) s)) (second_part (mid_of at (length s - at) s)) (third_part (mid_of at (length s - at) s)) w (reply.inserted a) (settled a (held_in state) new)
       → {r : Inserted} → Insertion state r a new → {later : State} → later ≡ r.state → {y : Bytes} → q.operation ≡ operation.Change w → length y ≡ needs q
       → y ≡ inPlace (reply.inserted r.answer) (room_in q.room (mid_of done (done_after done q - done) o)) (zeros q.other)
@@ -243,16 +241,16 @@ says {s} {n} {q} x e =
     absurd (omega arith)
 
 -- ---- the call
-pub needs_of : {s : Bytes} {n : ℕ} {r : Measured} → MeasuredAs s r → r ≡ measured.Needs n → Script s n
+pub needs_of : {s : Bytes} {n : ℕ} {r : Result ℕ Refusal} → MeasuredAs s r → r ≡ Ok n → Script s n
 needs_of {s} {n} m e = from (subst (MeasuredAs s) e m)
   where
-    from : MeasuredAs s (measured.Needs n) → Script s n
+    from : MeasuredAs s (Ok n) → Script s n
     from (run.needs t) = t
 
-pub fault_of : {s : Bytes} {why : Refusal} {r : Measured} → MeasuredAs s r → r ≡ measured.Refused why → Malformed s why
+pub fault_of : {s : Bytes} {why : Refusal} {r : Result ℕ Refusal} → MeasuredAs s r → r ≡ Err why → Malformed s why
 fault_of {s} {why} m e = from (subst (MeasuredAs s) e m)
   where
-    from : MeasuredAs s (measured.Refused why) → Malformed s why
+    from : MeasuredAs s (Err why) → Malformed s why
     from (run.refused t) = t
 
 -- the front of the answers, as it is lent and as it comes back
@@ -260,7 +258,7 @@ pub front_long : (o : Bytes) (n : ℕ) → n ≤ length o → n ≡ length (mid_
 front_long o n h = let e : n - 0 ≡ n = omega arith in rw e (sym (length-take-le n o h))
 
 pub run_all : {s : Bytes} (o here : Bytes) (n : ℕ) → length s ≤ script_limit → Script s n → n ≤ length o → Runs nothing nothing s (mid_of 0 (n - 0) o) here
-    → RanAs s o (ran.Bytes n) (put_mid 0 (n - 0) o here)
+    → RanAs s o (Ok n) (put_mid 0 (n - 0) o here)
 run_all {s} o here n l t h r =
     let e : n - 0 ≡ n = omega arith in
-    subst (λ k. RanAs s o (ran.Bytes n) (put_mid 0 k o here)) (sym e) (run.answered l t h (subst (λ k. Runs nothing nothing s (mid_of 0 k o) here) e r))
+    subst (λ k. RanAs s o (Ok n) (put_mid 0 k o here)) (sym e) (run.answered l t h (subst (λ k. Runs nothing nothing s (mid_of 0 k o) here) e r))

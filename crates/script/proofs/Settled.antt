@@ -18,7 +18,7 @@ use Rattle.wire.specs.declared.operation.OfState.{OfState}
 use Rattle.wire.specs.declared.operation.OfEvaluated.{OfEvaluated}
 use Rattle.wire.specs.declared.operation.Change.{Change}
 use Rattle.wire.specs.declared.reply.Reply.{Reply}
-use Rattle.script.specs.declared.run.Ran.{Ran}
+use Rattle.std.specs.Prelude.{Result}
 
 -- ## One request
 pub record SameChange (r r' : Reply) (d d' : Committed) : Type 0 where
@@ -124,12 +124,12 @@ apart ended (later w m) = let h = w.header in omega arith
 apart (next w t) (here a) = not_whole a w
 apart (next w t) (later v m) = apart t m
 
-pub record SameRun (r r' : Ran) (o o' : Bytes) : Type 0 where
+pub record SameRun (r r' : Result ℕ Refusal) (o o' : Bytes) : Type 0 where
   pub answer : r ≡ r'
   pub out : o ≡ o'
 
 -- two answers to one script on the same buffer coincide
-pub ran : {s o : Bytes} {r r' : Ran} {t t' : Bytes} → RanAs s o r t → RanAs s o r' t' → SameRun r r' t t'
+pub ran : {s o : Bytes} {r r' : Result ℕ Refusal} {t t' : Bytes} → RanAs s o r t → RanAs s o r' t' → SameRun r r' t t'
 ran (run.too_long a) (run.too_long b) = record { answer = refl; out = refl }
 ran (run.too_long a) (run.malformed b m) = absurd (omega arith)
 ran (run.too_long a) (run.room b m k) = absurd (omega arith)

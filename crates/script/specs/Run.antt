@@ -1,6 +1,6 @@
 -- What a script answers. The set c is what was inserted so far, and the evaluated set e is c as it was at the last evaluation. Each request's
 -- reply is what the call that it names answers on its arguments x, y, z and in its rooms p and q. proofs/Settled: two runs coincide.
-use Rattle.std.specs.Prelude.{ℕ, ◌≤◌, ◌<◌, ◌≡◌, [], ◌++◌, eqb, length, take, drop, replicate}
+use Rattle.std.specs.Prelude.{ℕ, ◌≤◌, ◌<◌, ◌≡◌, [], ◌++◌, eqb, length, take, drop, replicate, Result, Ok, Err, Option, Bool}
 use Rattle.keyline.specs.declared.refusal.Refusal.{Refusal}
 use Rattle.keyline.specs.declared.refusal.Refusal.TheVariants.{BadLength, SmallBuffer}
 use Rattle.runs.specs.Bytes.{Bytes}
@@ -8,14 +8,8 @@ use Rattle.tables.specs.Committed.{Committed, nothing, length_of, delegation_dig
 use Rattle.tables.specs.Insertion.{settled, delegation_answer, delegation_added, revocation_answer, revocation_added}
 use Rattle.lookups.specs.Lookup.{contains_answer, part_buffer}
 use Rattle.lookups.specs.Lookup as look
-use Rattle.lookups.specs.declared.put.Looked.{Looked}
 use Rattle.lists.specs.Lists.{both_answer, both_buffer, list_answer, list_buffer, length_first, certificate_delegations, certificate_revocations, subjects_of, revocations_of, delegations_to}
-use Rattle.lists.specs.declared.write.Listed.{Listed}
-use Rattle.lists.specs.declared.write.BothListed.{BothListed}
 use Rattle.answers.specs.Answers.{PositivePower, EffectivePower, ConveyedPower, IsLive, StandingAnswer, MembersAnswer, ClosureAnswer}
-use Rattle.answers.specs.declared.answer.Powered.{Powered}
-use Rattle.answers.specs.declared.answer.Liveness.{Liveness}
-use Rattle.answers.specs.declared.answer.Stood.{Stood}
 use Rattle.wire.specs.Reply as reply
 use Rattle.wire.specs.Reply.{head_length, head_of}
 use Rattle.wire.specs.Request.{request_of, first_part, second_part, third_part, Whole, Script, Malformed}
@@ -29,10 +23,9 @@ use Rattle.wire.specs.declared.operation.OfState.TheVariants as state
 use Rattle.wire.specs.declared.operation.OfEvaluated.{OfEvaluated}
 use Rattle.wire.specs.declared.operation.OfEvaluated.TheVariants as evaluated
 use Rattle.wire.specs.declared.reply.Reply.{Reply}
-use Rattle.script.specs.declared.run.Measured.{Measured}
-use Rattle.script.specs.declared.run.Measured.TheVariants as measured
-use Rattle.script.specs.declared.run.Ran.{Ran}
-use Rattle.script.specs.declared.run.Ran.TheVariants as ran
+use Rattle.lists.specs.declared.write.Counts.{Counts}
+use Rattle.power_levels.specs.declared.power.Power.{Power}
+use Rattle.keyline.specs.declared.standing.Standing.{Standing}
 
 -- ## One request
 -- the reply, and the set afterwards
@@ -48,26 +41,26 @@ pub data StateAnswers (c : Committed) (x y p q : Bytes) : OfState → Reply → 
   is_empty : StateAnswers c x y p q state.IsEmpty (reply.flagged (eqb (length_of c) 0)) p q
   contains_delegation : StateAnswers c x y p q state.ContainsDelegation (reply.contained (contains_answer (delegation_digests c) x)) p q
   contains_revocation : StateAnswers c x y p q state.ContainsRevocation (reply.contained (contains_answer (revocation_digests c) x)) p q
-  delegation : {r : Looked} → r ≡ look.delegation_lookup c x (length p) (length q)
+  delegation : {r : Result (Option ℕ) Refusal} → r ≡ look.delegation_lookup c x (length p) (length q)
       → StateAnswers c x y p q state.Delegation (reply.looked r) (part_buffer r (delegation_with c x).issuer p) (part_buffer r (payload_of (delegation_with c x)) q)
-  revocation : {r : Looked} → r ≡ look.revocation_lookup c x (length p) (length q)
+  revocation : {r : Result (Option ℕ) Refusal} → r ≡ look.revocation_lookup c x (length p) (length q)
       → StateAnswers c x y p q state.Revocation (reply.looked r) (part_buffer r (revocation_with c x).issuer p) (part_buffer r (revocation_with c x).revoked q)
-  subjects : {r : Listed} → r ≡ list_answer (subjects_of c) (length p) → StateAnswers c x y p q state.Subjects (reply.listed r) (list_buffer r (subjects_of c) p) q
-  lists_revocations : {r : Listed} → r ≡ length_first x (list_answer (revocations_of c x) (length p))
+  subjects : {r : Result ℕ Refusal} → r ≡ list_answer (subjects_of c) (length p) → StateAnswers c x y p q state.Subjects (reply.listed r) (list_buffer r (subjects_of c) p) q
+  lists_revocations : {r : Result ℕ Refusal} → r ≡ length_first x (list_answer (revocations_of c x) (length p))
       → StateAnswers c x y p q state.RevocationsOf (reply.listed r) (list_buffer r (revocations_of c x) p) q
-  lists_delegations : {r : Listed} → r ≡ length_first x (length_first y (list_answer (delegations_to c x y) (length p)))
+  lists_delegations : {r : Result ℕ Refusal} → r ≡ length_first x (length_first y (list_answer (delegations_to c x y) (length p)))
       → StateAnswers c x y p q state.DelegationsTo (reply.listed r) (list_buffer r (delegations_to c x y) p) q
-  certificates : {r : BothListed} → r ≡ both_answer (certificate_delegations c) (certificate_revocations c) (length p)
+  certificates : {r : Result Counts Refusal} → r ≡ both_answer (certificate_delegations c) (certificate_revocations c) (length p)
       → StateAnswers c x y p q state.Certificates (reply.both_listed r) (both_buffer r (certificate_delegations c) (certificate_revocations c) p) q
 
 pub data EvaluatedAnswers (e : Committed) (x y p q : Bytes) : OfEvaluated → Reply → Bytes → Bytes → Type 0 where
-  positive_power : {r : Powered} → PositivePower e x y r → EvaluatedAnswers e x y p q evaluated.PositivePower (reply.powered r) p q
-  effective_power : {r : Powered} → EffectivePower e x y r → EvaluatedAnswers e x y p q evaluated.EffectivePower (reply.powered r) p q
-  members : {r : Listed} {p' q' : Bytes} → MembersAnswer e x p q r p' q' → EvaluatedAnswers e x y p q evaluated.Members (reply.listed r) p' q'
-  is_live : {r : Liveness} → IsLive e x r → EvaluatedAnswers e x y p q evaluated.IsLive (reply.lived r) p q
-  conveyed_power : {r : Powered} → ConveyedPower e x r → EvaluatedAnswers e x y p q evaluated.ConveyedPower (reply.powered r) p q
-  standing : {r : Stood} → StandingAnswer e x r → EvaluatedAnswers e x y p q evaluated.Standing (reply.stood r) p q
-  closure : {r : BothListed} {p' : Bytes} → ClosureAnswer e x p r p' → EvaluatedAnswers e x y p q evaluated.Closure (reply.both_listed r) p' q
+  positive_power : {r : Result (Option Power) Refusal} → PositivePower e x y r → EvaluatedAnswers e x y p q evaluated.PositivePower (reply.powered r) p q
+  effective_power : {r : Result (Option Power) Refusal} → EffectivePower e x y r → EvaluatedAnswers e x y p q evaluated.EffectivePower (reply.powered r) p q
+  members : {r : Result ℕ Refusal} {p' q' : Bytes} → MembersAnswer e x p q r p' q' → EvaluatedAnswers e x y p q evaluated.Members (reply.listed r) p' q'
+  is_live : {r : Result Bool Refusal} → IsLive e x r → EvaluatedAnswers e x y p q evaluated.IsLive (reply.lived r) p q
+  conveyed_power : {r : Result (Option Power) Refusal} → ConveyedPower e x r → EvaluatedAnswers e x y p q evaluated.ConveyedPower (reply.powered r) p q
+  standing : {r : Result (Option Standing) Refusal} → StandingAnswer e x r → EvaluatedAnswers e x y p q evaluated.Standing (reply.stood r) p q
+  closure : {r : Result Counts Refusal} {p' : Bytes} → ClosureAnswer e x p r p' → EvaluatedAnswers e x y p q evaluated.Closure (reply.both_listed r) p' q
 
 -- ## In bytes
 abbrev pub zeros : ℕ → Bytes
@@ -112,15 +105,15 @@ pub data Runs : Committed → Committed → Bytes → Bytes → Bytes → Type 0
 abbrev pub script_limit : ℕ
 script_limit = 16777216
 
-pub data MeasuredAs (s : Bytes) : Measured → Type 0 where
-  needs : {n : ℕ} → Script s n → MeasuredAs s (measured.Needs n)
-  refused : {why : Refusal} → Malformed s why → MeasuredAs s (measured.Refused why)
+pub data MeasuredAs (s : Bytes) : Result ℕ Refusal → Type 0 where
+  needs : {n : ℕ} → Script s n → MeasuredAs s (Ok n)
+  refused : {why : Refusal} → Malformed s why → MeasuredAs s (Err why)
 
 -- the script s on the answers `out`: what it answers, and the answers afterwards. The checks in their order: the script's length (1), its
 -- requests (2 or 4, at the first that is none), the room for all replies (9). Bytes behind the replies stay.
-pub data RanAs (s out : Bytes) : Ran → Bytes → Type 0 where
-  too_long : script_limit < length s → RanAs s out (ran.Refused (BadLength (length s))) out
-  malformed : {why : Refusal} → length s ≤ script_limit → Malformed s why → RanAs s out (ran.Refused why) out
-  room : {n : ℕ} → length s ≤ script_limit → Script s n → length out < n → RanAs s out (ran.Refused (SmallBuffer n)) out
+pub data RanAs (s out : Bytes) : Result ℕ Refusal → Bytes → Type 0 where
+  too_long : script_limit < length s → RanAs s out (Err (BadLength (length s))) out
+  malformed : {why : Refusal} → length s ≤ script_limit → Malformed s why → RanAs s out (Err why) out
+  room : {n : ℕ} → length s ≤ script_limit → Script s n → length out < n → RanAs s out (Err (SmallBuffer n)) out
   answered : {n : ℕ} {here : Bytes} → length s ≤ script_limit → Script s n → n ≤ length out → Runs nothing nothing s (take n out) here
-      → RanAs s out (ran.Bytes n) (here ++ drop n out)
+      → RanAs s out (Ok n) (here ++ drop n out)

@@ -10,7 +10,8 @@ ghost use Rattle.script.specs.Run.{room_in, zeros, inPlace, StateReplied, Evalua
 use crate::ask;
 use keyline_memory::state::State;
 use queries::evaluated::Evaluated;
-use tables::answer::Answer;
+use keyline::refusal::Refusal;
+use tables::answer::Outcome;
 use wire::operation::{OfEvaluated, OfState};
 use wire::reply;
 use wire::reply::{HEAD, Reply};
@@ -122,7 +123,7 @@ pub fn answer_done(q: Request, out: &mut [u8])
     answer_plain(reply::valued(0), q.room, q.other, out);
 }
 
-pub fn answer_inserted(told: Answer, q: Request, out: &mut [u8])
+pub fn answer_inserted(told: Result<Outcome, Refusal>, q: Request, out: &mut [u8])
     requires { (length out.old ≡ head_length + q.room + q.other) × (q.other ≤ other_limit) }
     ensures { out.new ≡ inPlace (inserted told) (room_in q.room out.old) (zeros q.other) }
 {

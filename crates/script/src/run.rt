@@ -10,41 +10,24 @@ use tables::answer::is_added;
 use wire::operation::{Change, Operation};
 use wire::reply::HEAD;
 use wire::request;
-use wire::request::{HEADER, Step};
+use wire::request::HEADER;
 
 // The longest script.
 const SCRIPT_LIMIT: usize = 16777216;
 
 // How many bytes the replies of a script take.
-#[derive(Clone, Copy)]
-pub enum Measured {
-    Needs(usize),
-    Refused(Refusal),
-}
-
-// How many bytes of answers a script gave.
-#[derive(Clone, Copy)]
-pub enum Ran {
-    Bytes(usize),
-    Refused(Refusal),
-}
-
-fn measure(script: &[u8]) -> Measured
+fn measure(script: &[u8]) -> Result<usize, Refusal>
     requires { length script.now ≤ script_limit }
     ensures { MeasuredAs script.now result }
 {
     let mut at = 0;
     let mut n = 0;
     while at < script.len() {
-        match request::next_step(&script[at..]) {
-            Step::Whole(length, needs) => {
-                at += length;
-                n += needs;
-            }
-            Step::Refused(why) => return Measured::Refused(why),
-        }
+        let step = request::next_step(&script[at..])?;
+        at += step.request;
+        n += step.reply;
     }
-    Measured::Needs(n)
+    Ok(n)
 }
 
 // Copying the set is most of what an insertion takes, so it is stored again only where it was added to.
@@ -107,21 +90,17 @@ fn perform(script: &[u8], answers: &mut [u8])
     }
 }
 
-// Runs a script from the empty set. Where it is refused, no byte of the answers is touched.
-pub fn run(script: &[u8], answers: &mut [u8]) -> Ran
+// Runs a script from the empty set; how many bytes of answers it gave. Where it is refused, no byte of the answers is touched.
+pub fn run(script: &[u8], answers: &mut [u8]) -> Result<usize, Refusal>
     ensures { RanAs script.now answers.old result answers.new }
 {
     if SCRIPT_LIMIT < script.len() {
-        return Ran::Refused(Refusal::BadLength(script.len()));
+        return Err(Refusal::BadLength(script.len()));
     }
-    match measure(script) {
-        Measured::Refused(why) => Ran::Refused(why),
-        Measured::Needs(n) => {
-            if answers.len() < n {
-                return Ran::Refused(Refusal::SmallBuffer(n));
-            }
-            perform(script, &mut answers[0..n]);
-            Ran::Bytes(n)
-        }
+    let n = measure(script)?;
+    if answers.len() < n {
+        return Err(Refusal::SmallBuffer(n));
     }
+    perform(script, &mut answers[0..n]);
+    Ok(n)
 }

@@ -6,33 +6,25 @@ ghost use Rattle.answers.specs.Sought.{DelegationOf};
 ghost use Rattle.store.specs.Store.{committed};
 ghost use Rattle.powers.specs.EvaluationOf.{EvaluationOf};
 
-use answers::answer::{Liveness, Stood};
-use answers::sought::SoughtDelegation;
 use evaluation::Evaluation;
-use evaluation::standing::Standing;
+use keyline::refusal::Refusal;
+use keyline::standing::Standing;
+use places::DelegationPlace;
 use store::Store;
 
 // Live, revoked or unsupported.
 pub fn standing(
     store: Store,
     evaluation: Evaluation,
-    asked: SoughtDelegation,
+    asked: Result<Option<DelegationPlace>, Refusal>,
     digest: &[u8],
-) -> Stood
+) -> Result<Option<Standing>, Refusal>
     requires { EvaluationOf store evaluation × DelegationOf store.delegations.digests store.delegations.count digest.now asked }
     ensures { StandingAnswer (committed store) digest.now result }
 {
-    match asked {
-        SoughtDelegation::Refused(why) => Stood::Refused(why),
-        SoughtDelegation::Unheld => Stood::Absent,
-        SoughtDelegation::At(d) => {
-            let is = evaluation::standing::standing_of(evaluation, d);
-            match is {
-                Standing::Live => Stood::Live,
-                Standing::Revoked => Stood::Revoked,
-                Standing::Unsupported => Stood::Unsupported,
-            }
-        }
+    match asked? {
+        None => Ok(None),
+        Some(d) => Ok(Some(evaluation::standing::standing_of(evaluation, d))),
     }
 }
 
@@ -40,22 +32,17 @@ pub fn standing(
 pub fn is_live(
     store: Store,
     evaluation: Evaluation,
-    asked: SoughtDelegation,
+    asked: Result<Option<DelegationPlace>, Refusal>,
     digest: &[u8],
-) -> Liveness
+) -> Result<bool, Refusal>
     requires { EvaluationOf store evaluation × DelegationOf store.delegations.digests store.delegations.count digest.now asked }
     ensures { IsLive (committed store) digest.now result }
 {
-    match asked {
-        SoughtDelegation::Refused(why) => Liveness::Refused(why),
-        SoughtDelegation::Unheld => Liveness::Dead,
-        SoughtDelegation::At(d) => {
-            let is = evaluation::standing::standing_of(evaluation, d);
-            match is {
-                Standing::Live => Liveness::Live,
-                Standing::Revoked => Liveness::Dead,
-                Standing::Unsupported => Liveness::Dead,
-            }
+    match asked? {
+        None => Ok(false),
+        Some(d) => {
+            let standing = evaluation::standing::standing_of(evaluation, d);
+            Ok(standing == Standing::Live)
         }
     }
 }

@@ -1,6 +1,6 @@
 -- What an insertion looks at, as the tables have it: the table k of m keys, how many certificates of the kind there are, the place at
 -- which the digest was found, and what stands there. Rests on Columns and Insertion.
-use Rattle.std.specs.Prelude.{ℕ, ◌+◌, ◌*◌, ◌≤◌, ◌<◌, cond, [], length, ltb}
+use Rattle.std.specs.Prelude.{ℕ, ◌+◌, ◌*◌, ◌≤◌, ◌<◌, cond, [], length, ltb, Result, Ok, Err}
 use Rattle.power_levels.specs.declared.power.Power.{Power}
 use Rattle.keyline.specs.declared.refusal.Refusal.TheVariants.{FullKeys}
 use Rattle.places.specs.declared.KeyPlace.{KeyPlace}
@@ -13,9 +13,10 @@ use Rattle.power_levels.specs.Power.{level_count}
 use Rattle.tables.specs.Committed.{Delegation, Revocation}
 use Rattle.tables.specs.Columns.{row_says}
 use Rattle.tables.specs.Insertion.{Seen}
-use Rattle.tables.specs.declared.answer.Answer.{Answer}
-use Rattle.tables.specs.declared.answer.Answer.TheVariants.{Added, Refused}
 use Rattle.tables.specs.declared.delegations.DelegationRow.{DelegationRow}
+use Rattle.tables.specs.declared.answer.Outcome.{Outcome}
+use Rattle.keyline.specs.declared.refusal.Refusal.{Refusal}
+use Rattle.tables.specs.declared.answer.Outcome.TheVariants.{Added}
 
 -- a place of 32 bytes in b
 abbrev pub RunFits : Bytes → ℕ → Type 0
@@ -54,5 +55,5 @@ abbrev pub revocation_there : Bytes → ℕ → Bytes → ℕ → RevocationPlac
 revocation_there k m x n at by = record { keys = runs k m; count = n; held = ltb at.0 n; other = revoked_there k x at by }
 
 -- ---- m keys and `new` more
-abbrev pub room_answer : ℕ → ℕ → Answer
-room_answer m new = cond (ltb key_limit (m + new)) (Refused (FullKeys new)) Added
+abbrev pub room_answer : ℕ → ℕ → Result Outcome Refusal
+room_answer m new = cond (ltb key_limit (m + new)) (Err (FullKeys new)) (Ok Added)

@@ -14,42 +14,39 @@ use places::{DelegationPlace, KeyPlace, RevocationPlace};
 use power_levels::power::Power;
 use runs::bytes;
 
-#[derive(Clone, Copy)]
-pub enum Answer {
+// What an insertion that is not refused did.
+#[derive(Clone, Copy, Debug, PartialEq, Eq)]
+pub enum Outcome {
     Added,
     NotAdded,
-    Refused(Refusal),
 }
 
-pub fn is_added(a: Answer) -> bool
-    ensures { result ≡ is_added a }
+pub fn is_added(answer: Result<Outcome, Refusal>) -> bool
+    ensures { result ≡ is_added answer }
 {
-    match a {
-        Answer::Added => true,
-        Answer::NotAdded => false,
-        Answer::Refused(_) => false,
-    }
+    matches!(answer, Ok(Outcome::Added))
 }
 
 // The digest is held: with equal content, or with other content.
-fn held_answer(same: bool) -> Answer
+fn held_answer(same: bool) -> Result<Outcome, Refusal>
     ensures { result ≡ held_answer same }
 {
     if same {
-        return Answer::NotAdded;
+        Ok(Outcome::NotAdded)
+    } else {
+        Err(Refusal::Conflict)
     }
-    Answer::Refused(Refusal::Conflict)
 }
 
 // Of m keys and new ones more.
-fn room_answer(m: usize, new: usize) -> Answer
+fn room_answer(m: usize, new: usize) -> Result<Outcome, Refusal>
     requires { (m ≤ key_limit) × (new ≤ key_limit) }
     ensures { result ≡ room_answer m new }
 {
     if KEY_LIMIT < m + new {
-        return Answer::Refused(Refusal::FullKeys(new));
+        return Err(Refusal::FullKeys(new));
     }
-    Answer::Added
+    Ok(Outcome::Added)
 }
 
 // Whether the delegation at a place has this content, part by part.
@@ -101,7 +98,7 @@ fn accepted_answer<'a>(
     subject: &[u8],
     power: Power,
     citation: &[u8],
-) -> Answer
+) -> Result<Outcome, Refusal>
     requires { GoodRuns key_limit keys.now m × (length issuer.now ≡ key_length) × (length audience.now ≡ key_length) × (length subject.now ≡ key_length) × (at.0 < n → RowFits keys.now citations.now at row) }
     ensures { result ≡ accepted_answer (delegation_there keys.now m citations.now n at row) (argument issuer.now audience.now subject.now power citation.now) }
 {
@@ -111,7 +108,7 @@ fn accepted_answer<'a>(
         ));
     }
     if DELEGATION_LIMIT <= n {
-        return Answer::Refused(Refusal::FullDelegations);
+        return Err(Refusal::FullDelegations);
     }
     room_answer(
         m,
@@ -130,18 +127,18 @@ pub fn delegation_answer<'a>(
     digest: &[u8],
     issuer: &[u8],
     payload: &[u8],
-) -> Answer
+) -> Result<Outcome, Refusal>
     requires { GoodRuns key_limit keys.now m × (at.0 < n → RowFits keys.now citations.now at row) }
     ensures { result ≡ delegation_check (delegation_there keys.now m citations.now n at row) digest.now issuer.now payload.now }
 {
     if digest.len() != DIGEST_LENGTH {
-        return Answer::Refused(Refusal::BadLength(digest.len()));
+        return Err(Refusal::BadLength(digest.len()));
     }
     if issuer.len() != KEY_LENGTH {
-        return Answer::Refused(Refusal::BadLength(issuer.len()));
+        return Err(Refusal::BadLength(issuer.len()));
     }
     match codec::delegation::decode(payload) {
-        Decoded::Refused(why) => Answer::Refused(why),
+        Decoded::Refused(why) => Err(why),
         Decoded::Accepted(power, _) => {
             let citation = codec::delegation::citation(payload);
             accepted_answer(
@@ -190,24 +187,24 @@ pub fn revocation_answer<'a>(
     digest: &[u8],
     issuer: &[u8],
     revoked: &[u8],
-) -> Answer
+) -> Result<Outcome, Refusal>
     requires { GoodRuns key_limit keys.now m × (at.0 < n → RevocationFits keys.now column.now at by) }
     ensures { result ≡ revocation_check (revocation_there keys.now m column.now n at by) digest.now issuer.now revoked.now }
 {
     if digest.len() != DIGEST_LENGTH {
-        return Answer::Refused(Refusal::BadLength(digest.len()));
+        return Err(Refusal::BadLength(digest.len()));
     }
     if issuer.len() != KEY_LENGTH {
-        return Answer::Refused(Refusal::BadLength(issuer.len()));
+        return Err(Refusal::BadLength(issuer.len()));
     }
     if revoked.len() != DIGEST_LENGTH {
-        return Answer::Refused(Refusal::BadLength(revoked.len()));
+        return Err(Refusal::BadLength(revoked.len()));
     }
     if at.0 < n {
         return held_answer(same_revoked(keys, column, at, by, issuer, revoked));
     }
     if REVOCATION_LIMIT <= n {
-        return Answer::Refused(Refusal::FullRevocations);
+        return Err(Refusal::FullRevocations);
     }
     room_answer(m, crate::keys::fresh_one(keys, m, issuer))
 }

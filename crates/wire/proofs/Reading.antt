@@ -9,15 +9,15 @@ use Rattle.runs.specs.Bytes.{Bytes}
 use Rattle.wire.specs.Operation.{is_known}
 use Rattle.wire.specs.Request.{header_length, request_of, length_of, needs, Bounded, StepOf, whole, Script, ended, next, NextOf, first_part, second_part, third_part}
 use Rattle.wire.specs.declared.request.Request.{Request}
-use Rattle.wire.specs.declared.request.Step.TheVariants as step
+use Rattle.std.specs.Prelude.{Ok}
 
 pub known_of : (s : Bytes) (q : Request) (b v : Bool) → q ≡ request_of s → b ≡ is_known q.operation → b ≡ v → is_known (request_of s).operation ≡ v
 known_of s q b v e k h = ap (λ x. is_known x.operation) (sym e) ∙ sym k ∙ h
 
 -- a step that is whole, from the request as it was read
 pub whole_step : (s : Bytes) (q : Request) → q ≡ request_of s → Bounded q → header_length ≤ length s → is_known (request_of s).operation ≡ true
-    → length_of q ≤ length s → StepOf s (step.Whole (length_of q) (needs q))
-whole_step s q e b h k l = subst (λ r. StepOf s (step.Whole (length_of r) (needs r))) (sym e)
+    → length_of q ≤ length s → StepOf s (Ok (record { request = length_of q; reply = needs q }))
+whole_step s q e b h k l = subst (λ r. StepOf s (Ok (record { request = length_of r; reply = needs r }))) (sym e)
     (whole (record { header = h; known = k; all = subst (λ r. length_of r ≤ length s) e l }) (subst Bounded e b))
 
 -- ---- the next request of a well-formed rest

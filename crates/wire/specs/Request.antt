@@ -1,14 +1,13 @@
 -- A request in bytes: one of operation, three lengths of two bytes each, the first room's size in two bytes and the second's in one, then
 -- the arguments. And what a well-formed script is: requests one after the other, to the end.
-use Rattle.std.specs.Prelude.{ℕ, ◌+◌, ◌-◌, ◌*◌, ◌≤◌, ◌<◌, ◌≡◌, true, false, [], length, get_or, take, drop}
+use Rattle.std.specs.Prelude.{ℕ, ◌+◌, ◌-◌, ◌*◌, ◌≤◌, ◌<◌, ◌≡◌, true, false, [], length, get_or, take, drop, Result, Ok, Err}
 use Rattle.keyline.specs.declared.refusal.Refusal.{Refusal}
 use Rattle.keyline.specs.declared.refusal.Refusal.TheVariants.{UnexpectedEnd, InvalidTag}
 use Rattle.runs.specs.Bytes.{Bytes}
 use Rattle.wire.specs.Operation.{operation_of, is_known}
 use Rattle.wire.specs.Reply.{head_length}
 use Rattle.wire.specs.declared.request.Request.{Request}
-use Rattle.wire.specs.declared.request.Step.{Step}
-use Rattle.wire.specs.declared.request.Step.TheVariants as step
+use Rattle.wire.specs.declared.request.Sizes.{Sizes}
 
 abbrev pub header_length : ℕ
 header_length = 10
@@ -81,9 +80,9 @@ pub data Malformed : Bytes → Refusal → Type 0 where
   here : {s : Bytes} {why : Refusal} → NoRequest s why → Malformed s why
   later : {s : Bytes} {why : Refusal} → Whole s → Malformed (drop (length_of (request_of s)) s) why → Malformed s why
 
-pub data StepOf (s : Bytes) : Step → Type 0 where
-  whole : Whole s → Bounded (request_of s) → StepOf s (step.Whole (length_of (request_of s)) (needs (request_of s)))
-  refused : {why : Refusal} → NoRequest s why → StepOf s (step.Refused why)
+pub data StepOf (s : Bytes) : Result Sizes Refusal → Type 0 where
+  whole : Whole s → Bounded (request_of s) → StepOf s (Ok (record { request = length_of (request_of s); reply = needs (request_of s) }))
+  refused : {why : Refusal} → NoRequest s why → StepOf s (Err why)
 
 -- what is read of the request at the front of s, and the replies' bytes that are left, n: internal, for the loop over a script
 pub record NextOf (s : Bytes) (n : ℕ) (q : Request) : Type 0 where

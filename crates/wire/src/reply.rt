@@ -2,12 +2,11 @@
 ghost use Rattle.std.specs.Prelude.{◌≡◌, ◌%◌};
 ghost use Rattle.wire.specs.Reply.{valued, refused, flag_of, flagged, inserted, contained, looked, listed, both_listed, powered, lived, stood, head_of};
 
-use answers::answer::{Liveness, Powered, Stood};
 use keyline::refusal::Refusal;
-use lists::write::{BothListed, Listed};
-use lookups::lookup::Contained;
-use lookups::put::Looked;
-use tables::answer::Answer;
+use keyline::standing::Standing;
+use lists::write::Counts;
+use power_levels::power::Power;
+use tables::answer::Outcome;
 
 #[derive(Clone, Copy)]
 pub struct Reply {
@@ -52,95 +51,95 @@ pub fn flagged(is: bool) -> Reply
     valued(flag_of(is))
 }
 
-pub fn inserted(answer: Answer) -> Reply
+pub fn inserted(answer: Result<Outcome, Refusal>) -> Reply
     ensures { result ≡ inserted answer }
 {
     match answer {
-        Answer::Added => valued(1),
-        Answer::NotAdded => valued(0),
-        Answer::Refused(why) => refused(why),
+        Ok(Outcome::Added) => valued(1),
+        Ok(Outcome::NotAdded) => valued(0),
+        Err(why) => refused(why),
     }
 }
 
-pub fn contained(answer: Contained) -> Reply
+pub fn contained(answer: Result<bool, Refusal>) -> Reply
     ensures { result ≡ contained answer }
 {
     match answer {
-        Contained::Is(is) => flagged(is),
-        Contained::Refused(why) => refused(why),
+        Ok(is) => flagged(is),
+        Err(why) => refused(why),
     }
 }
 
 // Held, and how many bytes the second part has; all 0 where it is absent.
-pub fn looked(answer: Looked) -> Reply
+pub fn looked(answer: Result<Option<usize>, Refusal>) -> Reply
     ensures { result ≡ looked answer }
 {
     match answer {
-        Looked::Held(n) => Reply {
+        Ok(Some(n)) => Reply {
             number: 0,
             first: 1,
             second: n,
         },
-        Looked::Absent => valued(0),
-        Looked::Refused(why) => refused(why),
+        Ok(None) => valued(0),
+        Err(why) => refused(why),
     }
 }
 
-pub fn listed(answer: Listed) -> Reply
+pub fn listed(answer: Result<usize, Refusal>) -> Reply
     ensures { result ≡ listed answer }
 {
     match answer {
-        Listed::Items(n) => valued(n),
-        Listed::Refused(why) => refused(why),
+        Ok(n) => valued(n),
+        Err(why) => refused(why),
     }
 }
 
-pub fn both_listed(answer: BothListed) -> Reply
+pub fn both_listed(answer: Result<Counts, Refusal>) -> Reply
     ensures { result ≡ both_listed answer }
 {
     match answer {
-        BothListed::Items(n, m) => Reply {
+        Ok(n) => Reply {
             number: 0,
-            first: n,
-            second: m,
+            first: n.delegations,
+            second: n.revocations,
         },
-        BothListed::Refused(why) => refused(why),
+        Err(why) => refused(why),
     }
 }
 
 // The power byte; 0 for none.
-pub fn powered(answer: Powered) -> Reply
+pub fn powered(answer: Result<Option<Power>, Refusal>) -> Reply
     ensures { result ≡ powered answer }
 {
     match answer {
-        Powered::Level(p) => {
+        Ok(Some(p)) => {
             let byte = power_levels::power::byte(p);
             valued(byte as usize)
         }
-        Powered::Nothing => valued(0),
-        Powered::Refused(why) => refused(why),
+        Ok(None) => valued(0),
+        Err(why) => refused(why),
     }
 }
 
-pub fn lived(answer: Liveness) -> Reply
+pub fn lived(answer: Result<bool, Refusal>) -> Reply
     ensures { result ≡ lived answer }
 {
     match answer {
-        Liveness::Live => valued(1),
-        Liveness::Dead => valued(0),
-        Liveness::Refused(why) => refused(why),
+        Ok(true) => valued(1),
+        Ok(false) => valued(0),
+        Err(why) => refused(why),
     }
 }
 
-pub fn stood(answer: Stood) -> Reply
+pub fn stood(answer: Result<Option<Standing>, Refusal>) -> Reply
     ensures { result ≡ stood answer }
 {
     match answer {
-        Stood::Absent => valued(0),
-        Stood::Live => valued(1),
-        Stood::Revoked => valued(2),
-        Stood::Unsupported => valued(3),
-        Stood::Refused(why) => refused(why),
+        Ok(None) => valued(0),
+        Ok(Some(Standing::Live)) => valued(1),
+        Ok(Some(Standing::Revoked)) => valued(2),
+        Ok(Some(Standing::Unsupported)) => valued(3),
+        Err(why) => refused(why),
     }
 }
 

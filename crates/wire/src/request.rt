@@ -20,11 +20,11 @@ pub struct Request {
     pub other: usize,
 }
 
-// What is at the front of the rest of a script: a whole request with so many bytes, whose reply takes so many, or no request.
-#[derive(Clone, Copy)]
-pub enum Step {
-    Whole(usize, usize),
-    Refused(Refusal),
+// How many bytes a request has, and how many its reply takes.
+#[derive(Clone, Copy, Debug, PartialEq, Eq)]
+pub struct Sizes {
+    pub request: usize,
+    pub reply: usize,
 }
 
 // A number in two bytes, the lower one first.
@@ -64,23 +64,27 @@ pub fn read(script: &[u8]) -> Request
     }
 }
 
-pub fn next_step(script: &[u8]) -> Step
+// The sizes of the request at the front of the rest of a script, or why there is none.
+pub fn next_step(script: &[u8]) -> Result<Sizes, Refusal>
     requires { 0 < length script.now }
     ensures { StepOf script.now result }
 {
     if script.len() < HEADER {
-        return Step::Refused(Refusal::UnexpectedEnd);
+        return Err(Refusal::UnexpectedEnd);
     }
     let q = read(script);
     let what = q.operation;
     if !operation::is_known(what) {
-        return Step::Refused(Refusal::InvalidTag(script[0]));
+        return Err(Refusal::InvalidTag(script[0]));
     }
     let n = HEADER + q.first + q.second + q.third;
     if script.len() < n {
-        return Step::Refused(Refusal::UnexpectedEnd);
+        return Err(Refusal::UnexpectedEnd);
     }
-    Step::Whole(n, HEAD + q.room + q.other)
+    Ok(Sizes {
+        request: n,
+        reply: HEAD + q.room + q.other,
+    })
 }
 
 // The next request of a script whose rest is well-formed.

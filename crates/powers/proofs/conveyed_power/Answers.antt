@@ -9,9 +9,9 @@ use Rattle.rules.specs.Rows.{level_of}
 use Rattle.rules.proofs.Stores.Places.{conveyed_bytes}
 use Rattle.coverage.specs.Places.{places}
 use Rattle.answers.specs.Answers.{ConveyedPower}
-use Rattle.answers.specs.declared.answer.Powered.TheVariants as powered
 use Rattle.answers.proofs.Cases.{conveyed_small, delegation_at_place, delegation_unheld, delegation_refused, not_held, is_held, with_is}
 use Rattle.powers.proofs.conveyed_power.Goals as goal
+use Rattle.std.specs.Prelude.{Err}
 
 pub conveyed_power-requires : goal.conveyed_power-requires
 conveyed_power-requires c =
@@ -25,7 +25,7 @@ level_of-requires c = conveyed_small (places c.args.evaluation.facts) c.conveyed
 pub returns-in-Refused : goal.returns-in-Refused
 returns-in-Refused c =
     let s = c.args in
-    delegation_refused (λ w. ConveyedPower (committed s.store) s.digest.now (powered.Refused w)) says.digest-length c.requires.1 c.in-Refused.is
+    delegation_refused (λ w. ConveyedPower (committed s.store) s.digest.now (Err w)) says.digest-length c.requires.1 c.in-Refused.is
 
 pub returns-in-Unheld : goal.returns-in-Unheld
 returns-in-Unheld c =

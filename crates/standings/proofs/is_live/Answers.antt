@@ -4,9 +4,9 @@ use Rattle.answers.specs.Answers as says
 use Rattle.answers.proofs.Places.{table}
 use Rattle.rules.proofs.Stores.Places.{standing_bytes}
 use Rattle.answers.specs.Answers.{IsLive}
-use Rattle.answers.specs.declared.answer.Liveness.TheVariants as liveness
 use Rattle.answers.proofs.Cases.{lives, dies_revoked, dies_unsupported, delegation_at_place, delegation_unheld, delegation_refused, not_held, is_held, with_is}
 use Rattle.standings.proofs.is_live.Goals as goal
+use Rattle.std.specs.Prelude.{Err}
 
 pub standing_of-is-requires : goal.standing_of-is-requires
 standing_of-is-requires c =
@@ -17,7 +17,7 @@ standing_of-is-requires c =
 pub returns-in-Refused : goal.returns-in-Refused
 returns-in-Refused c =
     let s = c.args in
-    delegation_refused (λ w. IsLive (committed s.store) s.digest.now (liveness.Refused w)) says.digest-length c.requires.1 c.in-Refused.is
+    delegation_refused (λ w. IsLive (committed s.store) s.digest.now (Err w)) says.digest-length c.requires.1 c.in-Refused.is
 
 pub returns-in-Unheld : goal.returns-in-Unheld
 returns-in-Unheld c =

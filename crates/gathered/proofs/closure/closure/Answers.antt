@@ -5,7 +5,6 @@ use Rattle.lent.specs.Bytes.{front}
 use Rattle.runs.specs.Bytes.{joined}
 use Rattle.keyline.specs.Limits.{delegation_limit, revocation_limit}
 use Rattle.store.specs.Store.{committed}
-use Rattle.lists.specs.declared.write.BothListed.TheVariants as two
 use Rattle.lists.proofs.ChosenLaws.{stand}
 use Rattle.answers.specs.Answers as says
 use Rattle.answers.specs.Answers.{ClosureAnswer}
@@ -13,6 +12,7 @@ use Rattle.answers.proofs.Closures.{no_closure}
 use Rattle.answers.proofs.Seeking.{key_refused, key_unheld, key_at}
 use Rattle.answers.proofs.ClosureAnswered.{closure_answer}
 use Rattle.gathered.proofs.closure.closure.Goals as goal
+use Rattle.std.specs.Prelude.{Err}
 
 pub slice_bounds-seek_key-end : goal.slice_bounds-seek_key-end
 slice_bounds-seek_key-end c = sym c.requires.store.keys.long
@@ -78,7 +78,7 @@ write_both-requires c =
 pub returns-in-Refused : goal.returns-in-Refused
 returns-in-Refused c =
     let s = c.args in
-    key_refused (λ w. ClosureAnswer (committed s.store) s.subject.now s.out.now (two.Refused w) s.out.now) (λ h. says.subject-length h) c.seek_key-asked.ensures c.in-Refused.is
+    key_refused (λ w. ClosureAnswer (committed s.store) s.subject.now s.out.now (Err w) s.out.now) (λ h. says.subject-length h) c.seek_key-asked.ensures c.in-Refused.is
 
 pub returns-in-Unheld : goal.returns-in-Unheld
 unfolding front joined

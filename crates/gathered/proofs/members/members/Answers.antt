@@ -5,7 +5,6 @@ use Rattle.keyset.specs.Word.{width}
 use Rattle.lent.specs.Bytes.{front}
 use Rattle.runs.specs.Bytes.{joined}
 use Rattle.store.specs.Store.{committed}
-use Rattle.lists.specs.declared.write.Listed.TheVariants as listed
 use Rattle.answers.specs.Answers as says
 use Rattle.answers.specs.Answers.{MembersAnswer}
 use Rattle.answers.proofs.Members.{no_members}
@@ -13,6 +12,7 @@ use Rattle.answers.proofs.Seeking.{key_refused, key_unheld, key_at}
 use Rattle.answers.proofs.Counting.{size_le}
 use Rattle.answers.proofs.MembersAnswered.{listable, valued, keys_small, powers_small, members_answered}
 use Rattle.gathered.proofs.members.members.Goals as goal
+use Rattle.std.specs.Prelude.{Err}
 
 pub slice_bounds-seek_key-end : goal.slice_bounds-seek_key-end
 slice_bounds-seek_key-end c = sym c.requires.store.keys.long
@@ -83,7 +83,7 @@ put_values-requires c =
 pub returns-in-Refused : goal.returns-in-Refused
 returns-in-Refused c =
     let s = c.args in
-    key_refused (λ w. MembersAnswer (committed s.store) s.subject.now s.keys.now s.powers.now (listed.Refused w) s.keys.now s.powers.now) (λ h. says.subject-length h) c.seek_key-asked.ensures c.in-Refused.is
+    key_refused (λ w. MembersAnswer (committed s.store) s.subject.now s.keys.now s.powers.now (Err w) s.keys.now s.powers.now) (λ h. says.subject-length h) c.seek_key-asked.ensures c.in-Refused.is
 
 pub returns-in-Unheld : goal.returns-in-Unheld
 unfolding front joined

@@ -2,8 +2,8 @@ use mathlib.Core.Path.{sym, ap}
 use borrow.Author.Tests.{eq-eqb, ne_eqb}
 use Rattle.store.proofs.ViewLaws.{revocation_found}
 use Rattle.lookups.specs.Lookup.{contains_answer}
-use Rattle.lookups.specs.declared.lookup.Contained.TheVariants as contained
 use Rattle.lookups.proofs.lookup.contains_revocation.Goals as goal
+use Rattle.std.specs.Prelude.{Ok}
 
 pub returns-then-digest-ne-DIGEST_LENGTH : goal.returns-then-digest-ne-DIGEST_LENGTH
 unfolding contains_answer
@@ -15,4 +15,4 @@ slice_bounds-find-end c = sym c.requires.revocations.digests.long
 pub returns : goal.returns
 unfolding contains_answer
 returns c =
-    rw (eq-eqb _ _ c.if-digest-ne-DIGEST_LENGTH.false) (ap contained.Is (revocation_found c.args.s c.requires c.args.digest.now c.find-at.result.0 c.find-at.ensures))
+    rw (eq-eqb _ _ c.if-digest-ne-DIGEST_LENGTH.false) (ap Ok (revocation_found c.args.s c.requires c.args.digest.now c.find-at.result.0 c.find-at.ensures))
