@@ -20,6 +20,7 @@ use Rattle.keyline.specs.Limits.{delegation_limit, revocation_limit}
 use Rattle.tables.specs.Committed.{Delegation, Revocation}
 use Rattle.tables.specs.Columns.{revocation_at}
 use Rattle.store.specs.Store.{committed, GoodStore}
+use Rattle.store.specs.Parts.{holds}
 use Rattle.store.specs.declared.Store.{Store}
 use Rattle.coverage.specs.Places.{places}
 use Rattle.coverage.specs.declared.Facts.{Facts}
@@ -86,7 +87,7 @@ module _ (s : Store) (g : GoodStore s) where
     revocation_of v = revocation_at s.keys.table s.revocations v
 
     in_closure : (d : ℕ) → d < s.delegations.count → get_or dels d false ≡ true → Closure (graph (committed s)) (run_at s.keys.table i) (delegation_of s g e f d)
-    unfolding committed
+    unfolding holds
     in_closure d p o = record {
       held = tabulate_in (delegation_of s g e f) s.delegations.count d p;
       node = (node_bytes (table s g e f) h (g.delegations.subject.held d p)).0 (word-only (get_or s.delegations.subject d 0) (dels_yes d p o));
@@ -94,14 +95,14 @@ module _ (s : Store) (g : GoodStore s) where
 
     closure_in : (a : Delegation) → Closure (graph (committed s)) (run_at s.keys.table i) a
         → (d : ℕ) × (d < s.delegations.count) × (get_or dels d false ≡ true) × (delegation_of s g e f d ≡ a)
-    unfolding committed
+    unfolding holds
     closure_in a c =
         let t = tabulate_out (delegation_of s g e f) s.delegations.count c.held in
         let n = subst (λ y. Node (graph (committed s)) (run_at s.keys.table i) y.subject) (sym t.is) c.node in
         (t.at, t.within, dels_no t.at t.within (word-has (get_or s.delegations.subject t.at 0) ((node_bytes (table s g e f) h (g.delegations.subject.held t.at t.within)).1 n)), t.is)
 
     rev_in : (j : ℕ) → j < s.revocations.count → get_or revs j false ≡ true → ClosureRev (store (committed s)) (run_at s.keys.table i) (revocation_of j)
-    unfolding committed
+    unfolding holds
     rev_in j p o =
         let q = revs_yes j p o in
         let d = get_or e.target j 0 in
@@ -113,7 +114,7 @@ module _ (s : Store) (g : GoodStore s) where
 
     in_rev : (v : Revocation) → ClosureRev (store (committed s)) (run_at s.keys.table i) v
         → (j : ℕ) × (j < s.revocations.count) × (get_or revs j false ≡ true) × (revocation_of j ≡ v)
-    unfolding committed
+    unfolding holds
     in_rev v c =
         let t = tabulate_out revocation_of s.revocations.count c.of.held in
         let d = closure_in c.del c.closure in

@@ -20,6 +20,7 @@ use Rattle.runs.proofs.TableLaws.{runs_long, runs_at, found_at}
 use Rattle.tables.specs.Committed.{Delegation, Revocation}
 use Rattle.tables.specs.Columns.{delegation_at, revocation_at}
 use Rattle.store.specs.Store.{committed, GoodStore}
+use Rattle.store.specs.Parts.{holds}
 use Rattle.store.specs.declared.Store.{Store}
 use Rattle.tables.proofs.ContentLaws.{rank_power}
 use Rattle.coverage.specs.Places.{places, Names}
@@ -91,7 +92,7 @@ module _ (s : Store) (g : GoodStore s) (e : Facts) (f : FactsOf s e) where
   target_at j w d h p = f.target j w ∙ (ap (λ x. place Digests x) p ∙ sym (digest_place d h))
 
   pub table : Table (places e) (graph (committed s)) InUse key_at delegation_of
-  unfolding committed
+  unfolding holds
   table = record {
     apart = λ {x} {y} p q h. key_place_lem x p ∙ (ap (λ k. place (runs s.keys.table s.keys.count) k) h ∙ sym (key_place_lem y q));
     distinct = λ {d = c} {e = d} p q h.

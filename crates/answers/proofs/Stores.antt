@@ -6,13 +6,14 @@ use Rattle.runs.proofs.TableLaws.{found_at}
 use Rattle.keyline.specs.Limits.{delegation_limit}
 use Rattle.tables.specs.Columns.{delegation_at}
 use Rattle.store.specs.Store.{committed, GoodStore}
+use Rattle.store.specs.Parts.{holds}
 use Rattle.store.specs.declared.Store.{Store}
 use Rattle.answers.specs.OneClosure.{Apart, OneClosure, SameAnswers}
 use Rattle.answers.proofs.OneClosure.{demand_3}
 use Rattle.answers.proofs.Places.{tabulate_out}
 
 pub apart : (s : Store) → GoodStore s → Apart (committed s)
-unfolding committed
+unfolding holds
 apart s g d e m n q =
     let v = delegation_at s.keys.table s.delegations in
     let t = tabulate_out v s.delegations.count m in

@@ -23,7 +23,8 @@ use Rattle.power_levels.specs.Power.{level_count}
 use Rattle.tables.specs.Committed.{Delegation, Revocation, Committed, delegation_keys, revocation_keys, keys_of, keys_in}
 use Rattle.tables.specs.Insertion.{with_delegation, with_revocation}
 use Rattle.tables.specs.Columns.{delegation_at, revocation_at, Places, Ranks}
-use Rattle.store.specs.Store.{committed, GoodStore, GoodDelegations, GoodRevocations}
+use Rattle.store.specs.Store.{committed, GoodStore}
+use Rattle.store.specs.Parts.{GoodDelegations, GoodRevocations, holds}
 use Rattle.store.specs.declared.Store.{Store}
 use Rattle.tables.proofs.ContentLaws.{power_rank}
 use Rattle.store.proofs.MadeLaws.{delegation_made, revocation_made, committed_made}
@@ -222,7 +223,7 @@ module _ (s u : Store) (g : GoodStore s) (a : Delegation) (h : DelegationPushed 
       (rw (h.cited, get_or-set_same s.delegations.cited n h.flag false (omega arith)) h.citation)
 
   pub delegation_next : committed u ≡ with_delegation (committed s) a
-  unfolding committed
+  unfolding holds
   delegation_next =
       committed_made
       (rw (h.count, tabulate_snoc (delegation_at u.keys.table u.delegations) n, row_here, tabulate_same (delegation_at u.keys.table u.delegations) (delegation_at s.keys.table s.delegations) n row_before))
@@ -265,7 +266,7 @@ module _ (s u : Store) (g : GoodStore s) (a : Revocation) (h : RevocationPushed 
       h.revoked
 
   pub revocation_next : committed u ≡ with_revocation (committed s) a
-  unfolding committed
+  unfolding holds
   revocation_next =
       committed_made (delegations_kept s u g (revocation_keys a) h.keys h.delegations)
       (rw (

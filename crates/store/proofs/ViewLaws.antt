@@ -20,35 +20,36 @@ use Rattle.tables.specs.Insertion.{keys_answer}
 use Rattle.tables.specs.Columns.{row_at, delegation_at, revocation_at}
 use Rattle.tables.specs.Look.{RowFits, RevocationFits}
 use Rattle.store.specs.Store.{committed, GoodStore}
+use Rattle.store.specs.Parts.{holds}
 use Rattle.store.specs.declared.Store.{Store}
 
 -- ---- what stands at a place
 module _ (s : Store) where
   pub delegations_long : length (committed s).delegations ≡ s.delegations.count
-  unfolding committed
+  unfolding holds
   delegations_long = tabulate_long (delegation_at s.keys.table s.delegations) s.delegations.count
 
   pub revocations_long : length (committed s).revocations ≡ s.revocations.count
-  unfolding committed
+  unfolding holds
   revocations_long = tabulate_long (revocation_at s.keys.table s.revocations) s.revocations.count
 
   pub length_is : length_of (committed s) ≡ s.delegations.count + s.revocations.count
   length_is = let a = delegations_long in let b = revocations_long in omega arith
 
   pub delegation_at_lem : (i : ℕ) → i < s.delegations.count → get_or (committed s).delegations i no_delegation ≡ delegation_at s.keys.table s.delegations i
-  unfolding committed
+  unfolding holds
   delegation_at_lem i h = tabulate_at (delegation_at s.keys.table s.delegations) s.delegations.count no_delegation i h
 
   pub revocation_at_lem : (i : ℕ) → i < s.revocations.count → get_or (committed s).revocations i no_revocation ≡ revocation_at s.keys.table s.revocations i
-  unfolding committed
+  unfolding holds
   revocation_at_lem i h = tabulate_at (revocation_at s.keys.table s.revocations) s.revocations.count no_revocation i h
 
   pub delegation_digests_lem : delegation_digests (committed s) ≡ runs s.delegations.digests s.delegations.count
-  unfolding committed
+  unfolding holds
   delegation_digests_lem = tabulate_map (λ g. g.digest) (delegation_at s.keys.table s.delegations) s.delegations.count
 
   pub revocation_digests_lem : revocation_digests (committed s) ≡ runs s.revocations.digests s.revocations.count
-  unfolding committed
+  unfolding holds
   revocation_digests_lem = tabulate_map (λ r. r.digest) (revocation_at s.keys.table s.revocations) s.revocations.count
 
 -- ---- the held keys, as a table has them and as they are committed

@@ -9,6 +9,7 @@ use borrow.Author.Tests.{eq-eqb, ne_eqb}
 use Rattle.keyline.specs.Limits.{key_limit, delegation_limit}
 use Rattle.tables.specs.Columns.{delegation_at}
 use Rattle.store.specs.Store.{committed}
+use Rattle.store.specs.Parts.{holds}
 use Rattle.lists.specs.Lists.{length_first, from_to, delegations_to}
 use Rattle.lists.specs.Marks.{chosen_runs}
 use Rattle.lists.proofs.ChosenLaws.{stand, rows_chosen, same_place}
@@ -26,49 +27,49 @@ unfolding length_first
 returns-then-audience-ne-KEY_LENGTH c = (rw (eq-eqb _ _ c.if-subject-ne-KEY_LENGTH.false, ne_eqb _ _ c.if-audience-ne-KEY_LENGTH.true), refl)
 
 pub slice_bounds-find-end : goal.slice_bounds-find-end
-slice_bounds-find-end c = sym c.requires.keys.long
+slice_bounds-find-end c = sym c.args.store.now.good.keys.long
 
 pub slice_bounds-find-end-2 : goal.slice_bounds-find-end-2
-slice_bounds-find-end-2 c = sym c.requires.keys.long
+slice_bounds-find-end-2 c = sym c.args.store.now.good.keys.long
 
 pub slice_bounds-between-end : goal.slice_bounds-between-end
-slice_bounds-between-end c = sym c.requires.delegations.subject.long
+slice_bounds-between-end c = sym c.args.store.now.good.delegations.subject.long
 
 pub slice_bounds-between-end-2 : goal.slice_bounds-between-end-2
-slice_bounds-between-end-2 c = sym c.requires.delegations.audience.long
+slice_bounds-between-end-2 c = sym c.args.store.now.good.delegations.audience.long
 
 pub slice_bounds-choose-end : goal.slice_bounds-choose-end
-slice_bounds-choose-end c = sym c.requires.delegations.digests.long
+slice_bounds-choose-end c = sym c.args.store.now.good.delegations.digests.long
 
 pub choose-c-requires : goal.choose-c-requires
 choose-c-requires c =
-    let a = c.requires.delegations.digests.room in
+    let a = c.args.store.now.good.delegations.digests.room in
     let l = c.between-on.ensures.0 in
-    (c.requires.delegations.digests, omega arith, omega arith)
+    (c.args.store.now.good.delegations.digests, omega arith, omega arith)
 
 pub slice_bounds-write_one-end : goal.slice_bounds-write_one-end
-slice_bounds-write_one-end c = sym c.requires.delegations.digests.long
+slice_bounds-write_one-end c = sym c.args.store.now.good.delegations.digests.long
 
 pub write_one-requires : goal.write_one-requires
 write_one-requires c =
-    let st = c.args.s in
-    stand delegation_limit st.delegations.digests st.delegations.count c.requires.delegations.digests (omega arith) c.between-on.result c.choose-c.result c.choose-c.ensures
+    let st = c.args.store.now in
+    stand delegation_limit st.delegations.digests st.delegations.count c.args.store.now.good.delegations.digests (omega arith) c.between-on.result c.choose-c.result c.choose-c.ensures
 
 pub returns : goal.returns
-unfolding committed length_first
+unfolding holds length_first
 returns c =
-    let st = c.args.s in
+    let st = c.args.store.now in
     let x = c.args.subject.now in
     let y = c.args.audience.now in
     let k = st.keys.table in
     let m = st.keys.count in
-    let d = c.requires.delegations in
+    let d = c.args.store.now.good.delegations in
     let e : chosen_runs st.delegations.digests c.choose-c.result ≡ delegations_to (committed st) x y =
-    rows_chosen delegation_limit st.delegations.digests st.delegations.count c.requires.delegations.digests (omega arith) c.between-on.result c.choose-c.result c.choose-c.ensures
+    rows_chosen delegation_limit st.delegations.digests st.delegations.count c.args.store.now.good.delegations.digests (omega arith) c.between-on.result c.choose-c.result c.choose-c.ensures
     (delegation_at k st.delegations) (λ g. g.digest) (from_to x y)
     (λ i h.
     c.between-on.ensures.1 i h
-    ∙ both (ap (λ (p : ℕ). eqb (get_or st.delegations.subject i 0) p) c.find-i.ensures ∙ same_place key_limit k m c.requires.keys (get_or st.delegations.subject i 0) (d.subject.held i h) x)
-    (ap (λ (p : ℕ). eqb (get_or st.delegations.audience i 0) p) c.find-j.ensures ∙ same_place key_limit k m c.requires.keys (get_or st.delegations.audience i 0) (d.audience.held i h) y))
+    ∙ both (ap (λ (p : ℕ). eqb (get_or st.delegations.subject i 0) p) c.find-i.ensures ∙ same_place key_limit k m c.args.store.now.good.keys (get_or st.delegations.subject i 0) (d.subject.held i h) x)
+    (ap (λ (p : ℕ). eqb (get_or st.delegations.audience i 0) p) c.find-j.ensures ∙ same_place key_limit k m c.args.store.now.good.keys (get_or st.delegations.audience i 0) (d.audience.held i h) y))
     (λ i h. refl) in
     rw (eq-eqb _ _ c.if-subject-ne-KEY_LENGTH.false, eq-eqb _ _ c.if-audience-ne-KEY_LENGTH.false, ← e) c.write_one.ensures

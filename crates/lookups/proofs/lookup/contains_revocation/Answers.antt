@@ -10,9 +10,9 @@ unfolding contains_answer
 returns-then-digest-ne-DIGEST_LENGTH c = rw (ne_eqb _ _ c.if-digest-ne-DIGEST_LENGTH.true)
 
 pub slice_bounds-find-end : goal.slice_bounds-find-end
-slice_bounds-find-end c = sym c.requires.revocations.digests.long
+slice_bounds-find-end c = sym c.args.store.now.good.revocations.digests.long
 
 pub returns : goal.returns
 unfolding contains_answer
 returns c =
-    rw (eq-eqb _ _ c.if-digest-ne-DIGEST_LENGTH.false) (ap Ok (revocation_found c.args.s c.requires c.args.digest.now c.find-at.result.0 c.find-at.ensures))
+    rw (eq-eqb _ _ c.if-digest-ne-DIGEST_LENGTH.false) (ap Ok (revocation_found c.args.store.now c.args.store.now.good c.args.digest.now c.find-at.result.0 c.find-at.ensures))

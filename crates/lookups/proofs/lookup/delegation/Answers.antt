@@ -16,50 +16,50 @@ said g h P r e p = rw e p
 
 pub returns-then-digest-ne-DIGEST_LENGTH : goal.returns-then-digest-ne-DIGEST_LENGTH
 returns-then-digest-ne-DIGEST_LENGTH c =
-    (sym (look_bad c.args.digest.now _ (has (delegation_digests (committed c.args.s)) c.args.digest.now) c.if-digest-ne-DIGEST_LENGTH.true), refl, refl)
+    (sym (look_bad c.args.digest.now _ (has (delegation_digests (committed c.args.store.now)) c.args.digest.now) c.if-digest-ne-DIGEST_LENGTH.true), refl, refl)
 
 pub slice_bounds-find-end : goal.slice_bounds-find-end
-slice_bounds-find-end c = sym c.requires.delegations.digests.long
+slice_bounds-find-end c = sym c.args.store.now.good.delegations.digests.long
 
 pub slice_bounds-row-end : goal.slice_bounds-row-end
-slice_bounds-row-end c = sym c.requires.delegations.issuer.long
+slice_bounds-row-end c = sym c.args.store.now.good.delegations.issuer.long
 
 pub slice_bounds-row-end-then-at-n : goal.slice_bounds-row-end-then-at-n
-slice_bounds-row-end-then-at-n c = sym c.requires.delegations.audience.long
+slice_bounds-row-end-then-at-n c = sym c.args.store.now.good.delegations.audience.long
 
 pub slice_bounds-row-end-then-at-n-2 : goal.slice_bounds-row-end-then-at-n-2
-slice_bounds-row-end-then-at-n-2 c = sym c.requires.delegations.subject.long
+slice_bounds-row-end-then-at-n-2 c = sym c.args.store.now.good.delegations.subject.long
 
 pub slice_bounds-row-end-then-at-n-3 : goal.slice_bounds-row-end-then-at-n-3
-slice_bounds-row-end-then-at-n-3 c = sym c.requires.delegations.power.long
+slice_bounds-row-end-then-at-n-3 c = sym c.args.store.now.good.delegations.power.long
 
 pub slice_bounds-row-end-then-at-n-4 : goal.slice_bounds-row-end-then-at-n-4
-slice_bounds-row-end-then-at-n-4 c = sym c.requires.delegations.cited
+slice_bounds-row-end-then-at-n-4 c = sym c.args.store.now.good.delegations.cited
 
 pub slice_bounds-put_delegation-end : goal.slice_bounds-put_delegation-end
-slice_bounds-put_delegation-end c = sym c.requires.keys.long
+slice_bounds-put_delegation-end c = sym c.args.store.now.good.keys.long
 
 pub slice_bounds-put_delegation-end-then-at-n : goal.slice_bounds-put_delegation-end-then-at-n
-slice_bounds-put_delegation-end-then-at-n c = sym c.requires.delegations.citation
+slice_bounds-put_delegation-end-then-at-n c = sym c.args.store.now.good.delegations.citation
 
 pub put_delegation-requires : goal.put_delegation-requires
-put_delegation-requires c = rw c.row-row.ensures (row_fits c.args.s c.requires c.find-at.result c.if-at-n.true)
+put_delegation-requires c = rw c.row-row.ensures (row_fits c.args.store.now c.args.store.now.good c.find-at.result c.if-at-n.true)
 
 pub returns-then-at-n : goal.returns-then-at-n
 returns-then-at-n c =
-    let st = c.args.s in
+    let st = c.args.store.now in
     let d = c.args.digest.now in
     let at = c.find-at.result in
     let h = c.if-at-n.true in
-    let w : delegation_with (committed st) d ≡ delegation_at st.keys.table st.delegations at.0 = delegation_is st c.requires d at.0 c.find-at.ensures h in
-    let f : has (delegation_digests (committed st)) d ≡ true = sym (delegation_found st c.requires d at.0 c.find-at.ensures) ∙ lt-ltb at.0 st.delegations.count h in
+    let w : delegation_with (committed st) d ≡ delegation_at st.keys.table st.delegations at.0 = delegation_is st c.args.store.now.good d at.0 c.find-at.ensures h in
+    let f : has (delegation_digests (committed st)) d ≡ true = sym (delegation_found st c.args.store.now.good d at.0 c.find-at.ensures) ∙ lt-ltb at.0 st.delegations.count h in
     let p = rw c.row-row.ensures at c.put_delegation.ensures in
     rw (f, w) (p.0 ∙ sym (look_there d _ c.if-digest-ne-DIGEST_LENGTH.false), p.1, p.2)
 
 pub returns : goal.returns
 returns c =
-    let st = c.args.s in
+    let st = c.args.store.now in
     let d = c.args.digest.now in
     let at = c.find-at.result in
-    let f : has (delegation_digests (committed st)) d ≡ false = sym (delegation_found st c.requires d at.0 c.find-at.ensures) ∙ le-ltb at.0 st.delegations.count c.if-at-n.false in
+    let f : has (delegation_digests (committed st)) d ≡ false = sym (delegation_found st c.args.store.now.good d at.0 c.find-at.ensures) ∙ le-ltb at.0 st.delegations.count c.if-at-n.false in
     rw f (sym (look_absent d _ c.if-digest-ne-DIGEST_LENGTH.false), refl, refl)
