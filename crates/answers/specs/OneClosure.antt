@@ -1,6 +1,6 @@
 -- Demand 3, stated of the calls: where the closures of s in two committed sets list the same certificates, with the same signers and
 -- contents, equal arguments and buffer sizes give equal answers and equal bytes. `demand_3` of proofs/OneClosure proves it.
-use Rattle.std.specs.Prelude.{◌≡◌, length, Result, Option, Bool}
+use Rattle.std.specs.Prelude.{ℕ, ◌≡◌, length, Result, Option, Bool}
 use mathlib.Core.List.{Memᴰ}
 use Rattle.rules.specs.Rules.{Closure}
 use Rattle.rules.specs.OneClosure.{ListedIn}

@@ -3,7 +3,6 @@ ghost use Rattle.std.specs.Prelude.{◌≡◌, ◌≤◌, ◌*◌, length};
 ghost use Rattle.runs.specs.Bytes.{run_length};
 ghost use Rattle.runs.specs.Table.{GoodRuns};
 ghost use Rattle.keyline.specs.Limits.{delegation_limit, revocation_limit};
-ghost use Rattle.store.specs.Store.{GoodStore};
 ghost use Rattle.coverage.specs.Places.{Fit};
 ghost use Rattle.answers.specs.Facts.{FactsOf, Targets};
 
@@ -28,26 +27,19 @@ fn targets<'a>(digests: &'a [u8], n: usize, revoked: &'a [u8], m: usize) -> [u8;
     target
 }
 
-pub fn facts(s: Store) -> Facts
-    requires { GoodStore s }
-    ensures { Fit result × FactsOf s result }
+pub fn facts(store: &Store) -> Facts
+    ensures { Fit result × FactsOf store.now result }
 {
-    let n = s.delegations.count;
-    let m = s.revocations.count;
-    let target = targets(&s.delegations.digests, n, &s.revocations.revoked, m);
-    let issuer = s.delegations.issuer;
-    let audience = s.delegations.audience;
-    let subject = s.delegations.subject;
-    let power = s.delegations.power;
-    let revoker = s.revocations.issuer;
+    let n = store.delegations.count;
+    let m = store.revocations.count;
     Facts {
-        issuer,
-        audience,
-        subject,
-        power,
+        issuer: store.delegations.issuer,
+        audience: store.delegations.audience,
+        subject: store.delegations.subject,
+        power: store.delegations.power,
         delegations: n,
-        revoker,
-        target,
+        revoker: store.revocations.issuer,
+        target: targets(&store.delegations.digests, n, &store.revocations.revoked, m),
         revocations: m,
     }
 }

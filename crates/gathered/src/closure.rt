@@ -11,31 +11,31 @@ use lists::write::Counts;
 use store::Store;
 
 // Every held delegation whose subject is the one given or stands positively over it, and every held revocation that names one of them.
-pub fn closure(store: Store, evaluation: Evaluation, subject: &[u8], out: &mut [u8]) -> Result<Counts, Refusal>
-    requires { EvaluationOf store evaluation }
-    ensures { ClosureAnswer (committed store) subject.now out.old result out.new }
+pub fn closure(
+    store: &Store,
+    evaluation: &Evaluation,
+    subject: &[u8],
+    out: &mut [u8],
+) -> Result<Counts, Refusal>
+    requires { EvaluationOf store.now evaluation.now }
+    ensures { ClosureAnswer (committed store.now) subject.now out.old result out.new }
 {
-    let n = store.keys.count;
-    let table = store.keys.table;
-    match sought::seek_key(&table, n, subject)? {
+    match sought::seek_key(&store.keys.table, store.keys.count, subject)? {
         None => Ok(Counts {
             delegations: 0,
             revocations: 0,
         }),
         Some(s) => {
-            let nodes = evaluation::nodes::nodes(evaluation, s);
+            let nodes = evaluation::nodes::nodes(*evaluation, s);
             let d = store.delegations.count;
             let m = store.revocations.count;
-            let subjects = store.delegations.subject;
-            let dels = marks::in_nodes(&subjects, d, nodes);
-            let facts = evaluation.facts;
-            let target = facts.target;
-            let revs = marks::naming(&target, m, &dels, d);
-            let delegations = store.delegations.digests;
-            let revocations = store.revocations.digests;
-            let a = runs::list::choose(&delegations, DELEGATION_LIMIT, d, &dels);
-            let b = runs::list::choose(&revocations, REVOCATION_LIMIT, m, &revs);
-            lists::write::write_both(&delegations, &revocations, a, b, out)
+            let dels = marks::in_nodes(&store.delegations.subject, d, nodes);
+            let revs = marks::naming(&evaluation.facts.target, m, &dels, d);
+            let delegations = &store.delegations.digests;
+            let revocations = &store.revocations.digests;
+            let a = runs::list::choose(delegations, DELEGATION_LIMIT, d, &dels);
+            let b = runs::list::choose(revocations, REVOCATION_LIMIT, m, &revs);
+            lists::write::write_both(delegations, revocations, a, b, out)
         }
     }
 }

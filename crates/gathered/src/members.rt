@@ -11,23 +11,23 @@ use store::Store;
 
 // The members of the subject, ascending: keys in one buffer, power bytes in another. The count comes from ones.
 pub fn members(
-    store: Store,
-    evaluation: Evaluation,
+    store: &Store,
+    evaluation: &Evaluation,
     subject: &[u8],
     keys: &mut [u8],
     powers: &mut [u8],
 ) -> Result<usize, Refusal>
-    requires { EvaluationOf store evaluation }
-    ensures { MembersAnswer (committed store) subject.now keys.old powers.old result keys.new powers.new }
+    requires { EvaluationOf store.now evaluation.now }
+    ensures { MembersAnswer (committed store.now) subject.now keys.old powers.old result keys.new powers.new }
 {
     let n = store.keys.count;
-    let table = store.keys.table;
-    match sought::seek_key(&table, n, subject)? {
+    let table = &store.keys.table;
+    match sought::seek_key(table, n, subject)? {
         None => Ok(0),
         Some(s) => {
-            let row = evaluation::levels::levels(evaluation, s);
+            let row = evaluation::levels::levels(*evaluation, s);
             let on = marks::member_marks(&row, n, s.0);
-            let c = runs::list::choose(&table, KEY_LIMIT, n, &on);
+            let c = runs::list::choose(table, KEY_LIMIT, n, &on);
             let letters = marks::letters(&row);
             let k = keyset::count(marks::member_word(&row, n, s.0));
             let need = KEY_LENGTH * k;
@@ -37,7 +37,7 @@ pub fn members(
             if powers.len() < k {
                 return Err(Refusal::SmallBuffer(k));
             }
-            runs::list::put_runs(&table, &c.places, k, keys);
+            runs::list::put_runs(table, &c.places, k, keys);
             runs::list::put_values(&letters, &c.places, k, powers);
             Ok(k)
         }

@@ -6,7 +6,6 @@
 ghost use Rattle.std.specs.Prelude.{◌≡◌, ◌+◌, ◌*◌, ◌<◌, ◌≤◌, length};
 ghost use Rattle.runs.specs.Bytes.{run_length, run_at, eq_bytes};
 ghost use Rattle.runs.specs.Table.{large_limit};
-ghost use Rattle.store.specs.Store.{GoodStore};
 ghost use Rattle.hints.specs.Slots.{slots};
 
 use places::wide;
@@ -49,14 +48,13 @@ fn fill(table: &[u8], n: usize, way: usize) -> [u8; SLOTS]
 }
 
 // The hints of a store's keys and delegations.
-pub fn hints_of(store: Store, way: usize) -> Hints
-    requires { GoodStore store × (way + 1 < run_length) }
+pub fn hints_of(store: &Store, way: usize) -> Hints
+    requires { way + 1 < run_length }
 {
-    let table = store.keys.table;
-    let digests = store.delegations.digests;
-    let keys = fill(&table, store.keys.count, way);
-    let delegations = fill(&digests, store.delegations.count, way);
-    Hints { keys, delegations }
+    Hints {
+        keys: fill(&store.keys.table, store.keys.count, way),
+        delegations: fill(&store.delegations.digests, store.delegations.count, way),
+    }
 }
 
 // Whether the run at place i is the one given. runs::bytes::same_at says the same and stops at the first other byte; a hint is most often right,

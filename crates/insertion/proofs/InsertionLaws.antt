@@ -16,9 +16,8 @@ use Rattle.runs.proofs.PartLaws.{length_put, run_before, run_here}
 use Rattle.runs.proofs.TableLaws.{runs_long, has_place}
 use Rattle.keyline.specs.Limits.{key_limit, digest_length}
 use Rattle.tables.specs.Committed.{Committed}
-use Rattle.tables.specs.Insertion.{is_added}
-use Rattle.store.specs.Store.{committed, GoodStore}
-use Rattle.insertion.specs.Inserted.{Insertion}
+use Rattle.tables.specs.Insertion.{is_added, settled}
+use Rattle.store.specs.Store.{committed}
 use Rattle.store.specs.declared.Store.{Store}
 use Rattle.insertion.proofs.KeyLaws.{KeyRoom}
 use Rattle.tables.proofs.PayloadLaws.{Cited}
@@ -32,18 +31,9 @@ is_added_lem (Ok Added) e = refl
 is_added_lem (Ok NotAdded) e = let z : ◌≡◌ {A = ℕ} 0 1 = cc in absurd (omega arith)
 is_added_lem (Err r) e = let z : ◌≡◌ {A = ℕ} 0 1 = cc in absurd (omega arith)
 
--- nothing is added
-pub kept_law : (s : Store) (a b : Result Outcome Refusal) (new : Committed) → GoodStore s → a ≡ b → is_added a ≡ false → Insertion s (record { answer = a; store = s }) b new
-kept_law s a b new g e f = record { answer = e; good = g; held = rw (← e, f); kept = λ h. refl }
-
 -- the certificate is added
-pub added_law : (s u : Store) (a b : Result Outcome Refusal) (new : Committed) → GoodStore u → committed u ≡ new → a ≡ b → is_added a ≡ true → Insertion s (record { answer = a; store = u }) b new
-added_law s u a b new g c e f = record {
-  answer = e;
-  good = g;
-  held = rw (← e, f) c;
-  kept = λ h. let z : ◌≡◌ {A = Bool} true false = sym f ∙ ap is_added e ∙ h in let y : ◌≡◌ {A = ℕ} 0 1 = cc in absurd (omega arith);
-}
+pub added : (a : Result Outcome Refusal) (old new u : Committed) → is_added a ≡ true → u ≡ new → u ≡ settled a old new
+added a old new u f e = rw f e
 
 -- a digest that is not found goes to the end
 pub room_for : (limit : ℕ) (t : Bytes) (n : ℕ) (x : Bytes) (i : ℕ) → GoodRuns limit t n → limit ≤ 128 → n < limit → length x ≡ digest_length → i ≡ place (runs t n) x → ltb i n ≡ false → Room limit t n x

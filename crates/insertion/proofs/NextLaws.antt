@@ -24,7 +24,10 @@ use Rattle.tables.specs.Committed.{Delegation, Revocation, Committed, delegation
 use Rattle.tables.specs.Insertion.{with_delegation, with_revocation}
 use Rattle.tables.specs.Columns.{delegation_at, revocation_at, Places, Ranks}
 use Rattle.store.specs.Store.{committed, GoodStore}
-use Rattle.store.specs.Parts.{GoodDelegations, GoodRevocations, holds}
+use Rattle.store.specs.Parts.{GoodDelegations, GoodRevocations, GoodParts, holds}
+use Rattle.tables.specs.declared.keys.Keys.{Keys}
+use Rattle.tables.specs.declared.delegations.Delegations.{Delegations}
+use Rattle.tables.specs.declared.revocations.Revocations.{Revocations}
 use Rattle.store.specs.declared.Store.{Store}
 use Rattle.tables.proofs.ContentLaws.{power_rank}
 use Rattle.store.proofs.MadeLaws.{delegation_made, revocation_made, committed_made}
@@ -101,8 +104,15 @@ pub record KeySet (u : Bytes) (m n : ℕ) (k : Bytes) (old new : List ℕ) : Typ
   pub is_set : new ≡ set old n place
   pub stands : Stands u m place k
 
--- the tables t and keys k, of m, become u and l, with the delegation a more
-pub record DelegationPushed (s u : Store) (a : Delegation) : Type 0 where
+-- what a store has of its own, before it is known to be one
+pub record Parts : Type 0 where
+  pub keys : Keys
+  pub delegations : Delegations
+  pub revocations : Revocations
+  pub version : ℕ
+
+-- the parts of s become u, with the delegation a more
+pub record DelegationPushed (s : Store) (u : Parts) (a : Delegation) : Type 0 where
   pub keys : WithKeys s.keys.table u.keys.table s.keys.count u.keys.count (delegation_keys a)
   pub digests : Pushed delegation_limit s.delegations.digests u.delegations.digests s.delegations.count a.digest
   pub room : s.delegations.count < delegation_limit
@@ -119,7 +129,7 @@ pub record DelegationPushed (s u : Store) (a : Delegation) : Type 0 where
   pub revocations : u.revocations ≡ s.revocations
   pub version : u.version ≡ s.version + 1
 
-pub record RevocationPushed (s u : Store) (a : Revocation) : Type 0 where
+pub record RevocationPushed (s : Store) (u : Parts) (a : Revocation) : Type 0 where
   pub keys : WithKeys s.keys.table u.keys.table s.keys.count u.keys.count (revocation_keys a)
   pub digests : Pushed revocation_limit s.revocations.digests u.revocations.digests s.revocations.count a.digest
   pub room : s.revocations.count < revocation_limit
@@ -137,7 +147,7 @@ pushed_digest limit t u n x p =
     sym (runs_at limit u (n + 1) p.good n (omega arith)) ∙ rw p.held (get_or_at (runs t n) x [] [] n (tabulate_long (run_at t) n))
 
 -- ---- the keys of s, and more
-module _ (s u : Store) (g : GoodStore s) (ks : List Bytes) (w : WithKeys s.keys.table u.keys.table s.keys.count u.keys.count ks) where
+module _ (s : Store) (u : Parts) (g : GoodStore s) (ks : List Bytes) (w : WithKeys s.keys.table u.keys.table s.keys.count u.keys.count ks) where
   more : s.keys.count ≤ u.keys.count
   more =
       let a = runs_long key_limit u.keys.table u.keys.count w.good in
@@ -193,7 +203,7 @@ module _ (s u : Store) (g : GoodStore s) (ks : List Bytes) (w : WithKeys s.keys.
     column_good = rw c.is_set (places_more limit n s.keys.count u.keys.count old p room more w.good.room c.place c.stands.within)
 
 -- ---- one delegation more
-module _ (s u : Store) (g : GoodStore s) (a : Delegation) (h : DelegationPushed s u a) where
+module _ (s : Store) (u : Parts) (g : GoodStore s) (a : Delegation) (h : DelegationPushed s u a) where
   abbrev n : ℕ
   n = s.delegations.count
 
@@ -222,14 +232,14 @@ module _ (s u : Store) (g : GoodStore s) (a : Delegation) (h : DelegationPushed 
       (rw (h.power, get_or-set_same s.delegations.power n (rank_of a.power) 0 (omega arith)) (power_rank a.power))
       (rw (h.cited, get_or-set_same s.delegations.cited n h.flag false (omega arith)) h.citation)
 
-  pub delegation_next : committed u ≡ with_delegation (committed s) a
+  pub delegation_next : holds u.keys u.delegations u.revocations ≡ with_delegation (committed s) a
   unfolding holds
   delegation_next =
       committed_made
       (rw (h.count, tabulate_snoc (delegation_at u.keys.table u.delegations) n, row_here, tabulate_same (delegation_at u.keys.table u.delegations) (delegation_at s.keys.table s.delegations) n row_before))
       (revocations_kept s u g (delegation_keys a) h.keys h.revocations)
 
-  pub delegation_good : GoodStore u
+  pub delegation_good : GoodParts u.keys u.delegations u.revocations u.version
   delegation_good =
       let d = g.delegations in
       let w = h.keys in
@@ -250,7 +260,7 @@ module _ (s u : Store) (g : GoodStore s) (a : Delegation) (h : DelegationPushed 
       }
 
 -- ---- one revocation more
-module _ (s u : Store) (g : GoodStore s) (a : Revocation) (h : RevocationPushed s u a) where
+module _ (s : Store) (u : Parts) (g : GoodStore s) (a : Revocation) (h : RevocationPushed s u a) where
   revoked_before : (i : ℕ) → i < s.revocations.count → revocation_at u.keys.table u.revocations i ≡ revocation_at s.keys.table s.revocations i
   revoked_before i p =
       let n = s.revocations.count in
@@ -265,7 +275,7 @@ module _ (s u : Store) (g : GoodStore s) (a : Revocation) (h : RevocationPushed 
       (column_here s u g (revocation_keys a) h.keys revocation_limit n a.issuer _ _ g.revocations.issuer h.issuer h.room)
       h.revoked
 
-  pub revocation_next : committed u ≡ with_revocation (committed s) a
+  pub revocation_next : holds u.keys u.delegations u.revocations ≡ with_revocation (committed s) a
   unfolding holds
   revocation_next =
       committed_made (delegations_kept s u g (revocation_keys a) h.keys h.delegations)
@@ -276,7 +286,7 @@ module _ (s u : Store) (g : GoodStore s) (a : Revocation) (h : RevocationPushed 
         tabulate_same (revocation_at u.keys.table u.revocations) (revocation_at s.keys.table s.revocations) s.revocations.count revoked_before,
       ))
 
-  pub revocation_good : GoodStore u
+  pub revocation_good : GoodParts u.keys u.delegations u.revocations u.version
   revocation_good =
       let w = h.keys in
       record {

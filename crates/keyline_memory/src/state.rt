@@ -35,7 +35,6 @@ pub fn new() -> State
 
 impl State {
     pub fn insert_delegation(self, digest: &[u8], issuer: &[u8], payload: &[u8]) -> Inserted
-        requires { GoodState self }
         ensures { Insertion self result (delegation_answer (held_in self) digest.now issuer.now payload.now) (delegation_added (held_in self) digest.now issuer.now payload.now) }
     {
         let r = insertion::insert_delegation(self.store, digest, issuer, payload);
@@ -46,7 +45,6 @@ impl State {
     }
 
     pub fn insert_revocation(self, digest: &[u8], issuer: &[u8], revoked: &[u8]) -> Inserted
-        requires { GoodState self }
         ensures { Insertion self result (revocation_answer (held_in self) digest.now issuer.now revoked.now) (revocation_added (held_in self) digest.now issuer.now revoked.now) }
     {
         let r = insertion::insert_revocation(self.store, digest, issuer, revoked);
@@ -58,21 +56,18 @@ impl State {
 
     // How many certificates were ever added.
     pub fn version(self) -> u64
-        requires { GoodState self }
         ensures { result ≡ length_of (held_in self) }
     {
         store::version(self.store)
     }
 
     pub fn len(self) -> usize
-        requires { GoodState self }
         ensures { result ≡ length_of (held_in self) }
     {
         store::len(self.store)
     }
 
     pub fn is_empty(self) -> bool
-        requires { GoodState self }
         ensures { result ≡ eqb (length_of (held_in self)) 0 }
     {
         store::is_empty(self.store)
@@ -80,21 +75,18 @@ impl State {
 
     // The evaluation of the set as it stands; every further question is put to what it gives.
     pub fn evaluate(self) -> Evaluated
-        requires { GoodState self }
         ensures { GoodEvaluated result × (held_by result ≡ held_in self) }
     {
         queries::evaluated::evaluate(self.store)
     }
 
     pub fn contains_delegation(self, digest: &[u8]) -> Result<bool, Refusal>
-        requires { GoodState self }
         ensures { result ≡ contains_answer (delegation_digests (held_in self)) digest.now }
     {
         lookups::lookup::contains_delegation(self.store, digest)
     }
 
     pub fn contains_revocation(self, digest: &[u8]) -> Result<bool, Refusal>
-        requires { GoodState self }
         ensures { result ≡ contains_answer (revocation_digests (held_in self)) digest.now }
     {
         lookups::lookup::contains_revocation(self.store, digest)
@@ -102,7 +94,6 @@ impl State {
 
     // The issuer and the payload of the delegation with that digest, in two lent buffers.
     pub fn delegation(self, digest: &[u8], issuer: &mut [u8], payload: &mut [u8]) -> Result<Option<usize>, Refusal>
-        requires { GoodState self }
         ensures { (result ≡ look.delegation_lookup (held_in self) digest.now (length issuer.old) (length payload.old)) × (issuer.new ≡ part_buffer result (delegation_with (held_in self) digest.now).issuer issuer.old) × (payload.new ≡ part_buffer result (payload_of (delegation_with (held_in self) digest.now)) payload.old) }
     {
         lookups::lookup::delegation(self.store, digest, issuer, payload)
@@ -110,7 +101,6 @@ impl State {
 
     // The issuer and the revoked digest of the revocation with that digest, in two lent buffers.
     pub fn revocation(self, digest: &[u8], issuer: &mut [u8], revoked: &mut [u8]) -> Result<Option<usize>, Refusal>
-        requires { GoodState self }
         ensures { (result ≡ look.revocation_lookup (held_in self) digest.now (length issuer.old) (length revoked.old)) × (issuer.new ≡ part_buffer result (revocation_with (held_in self) digest.now).issuer issuer.old) × (revoked.new ≡ part_buffer result (revocation_with (held_in self) digest.now).revoked revoked.old) }
     {
         lookups::lookup::revocation(self.store, digest, issuer, revoked)
@@ -118,7 +108,6 @@ impl State {
 
     // All certificates: delegations ascending, then revocations ascending.
     pub fn certificates(self, out: &mut [u8]) -> Result<Counts, Refusal>
-        requires { GoodState self }
         ensures { (result ≡ both_answer (certificate_delegations (held_in self)) (certificate_revocations (held_in self)) (length out.old)) × (out.new ≡ both_buffer result (certificate_delegations (held_in self)) (certificate_revocations (held_in self)) out.old) }
     {
         lists::lists::certificates(self.store, out)
@@ -126,7 +115,6 @@ impl State {
 
     // The subjects of held delegations.
     pub fn subjects(self, out: &mut [u8]) -> Result<usize, Refusal>
-        requires { GoodState self }
         ensures { (result ≡ list_answer (subjects_of (held_in self)) (length out.old)) × (out.new ≡ list_buffer result (subjects_of (held_in self)) out.old) }
     {
         lists::lists::subjects(self.store, out)
@@ -134,7 +122,6 @@ impl State {
 
     // The held revocations that name the target, which need not be held.
     pub fn revocations_of(self, target: &[u8], out: &mut [u8]) -> Result<usize, Refusal>
-        requires { GoodState self }
         ensures { (result ≡ length_first target.now (list_answer (revocations_of (held_in self) target.now) (length out.old))) × (out.new ≡ list_buffer result (revocations_of (held_in self) target.now) out.old) }
     {
         lists::lists::revocations_of(self.store, target, out)
@@ -142,7 +129,6 @@ impl State {
 
     // The held delegations with that subject and audience.
     pub fn delegations_to(self, subject: &[u8], audience: &[u8], out: &mut [u8]) -> Result<usize, Refusal>
-        requires { GoodState self }
         ensures { (result ≡ length_first subject.now (length_first audience.now (list_answer (delegations_to (held_in self) subject.now audience.now) (length out.old)))) × (out.new ≡ list_buffer result (delegations_to (held_in self) subject.now audience.now) out.old) }
     {
         lists::lists::delegations_to(self.store, subject, audience, out)

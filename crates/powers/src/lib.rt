@@ -1,6 +1,5 @@
 // A key's power over a subject, positive or effective, and what a delegation conveys: put to a store and its evaluation. The places of two keys are
-// found here, that of a delegation comes with the question; the answer is what the evaluation says of those places. Copies of columns are
-// lent: of a value whose own part is lent the whole is copied.
+// found here, that of a delegation comes with the question; the answer is what the evaluation says of those places.
 #![tactic(auto)]
 
 ghost use Rattle.answers.specs.Answers.{PositivePower, EffectivePower, ConveyedPower};
@@ -18,44 +17,38 @@ use store::Store;
 
 // The audience's power over the subject, were nothing ever revoked.
 pub fn positive_power(
-    store: Store,
-    evaluation: Evaluation,
+    store: &Store,
+    evaluation: &Evaluation,
     subject: &[u8],
     audience: &[u8],
 ) -> Result<Option<Power>, Refusal>
-    requires { EvaluationOf store evaluation }
-    ensures { PositivePower (committed store) subject.now audience.now result }
+    requires { EvaluationOf store.now evaluation.now }
+    ensures { PositivePower (committed store.now) subject.now audience.now result }
 {
-    let n = store.keys.count;
-    let table = store.keys.table;
-    let asked = sought::seek_pair(&table, n, subject, audience)?;
-    match asked {
+    match sought::seek_pair(&store.keys.table, store.keys.count, subject, audience)? {
         Pair::Same => Ok(Some(Power::Admin)),
         Pair::Unheld => Ok(None),
         Pair::At(s, x) => {
-            Ok(answer::level_of(evaluation::positive::positive_power(evaluation, s, x)))
+            Ok(answer::level_of(evaluation::positive::positive_power(*evaluation, s, x)))
         }
     }
 }
 
 // The audience's power over the subject.
 pub fn effective_power(
-    store: Store,
-    evaluation: Evaluation,
+    store: &Store,
+    evaluation: &Evaluation,
     subject: &[u8],
     audience: &[u8],
 ) -> Result<Option<Power>, Refusal>
-    requires { EvaluationOf store evaluation }
-    ensures { EffectivePower (committed store) subject.now audience.now result }
+    requires { EvaluationOf store.now evaluation.now }
+    ensures { EffectivePower (committed store.now) subject.now audience.now result }
 {
-    let n = store.keys.count;
-    let table = store.keys.table;
-    let asked = sought::seek_pair(&table, n, subject, audience)?;
-    match asked {
+    match sought::seek_pair(&store.keys.table, store.keys.count, subject, audience)? {
         Pair::Same => Ok(Some(Power::Admin)),
         Pair::Unheld => Ok(None),
         Pair::At(s, x) => {
-            let row = evaluation::levels::levels(evaluation, s);
+            let row = evaluation::levels::levels(*evaluation, s);
             let k = x.0;
             Ok(answer::level_of(row[k]))
         }
@@ -64,18 +57,18 @@ pub fn effective_power(
 
 // What the delegation conveys.
 pub fn conveyed_power(
-    store: Store,
-    evaluation: Evaluation,
+    store: &Store,
+    evaluation: &Evaluation,
     asked: Result<Option<DelegationPlace>, Refusal>,
     digest: &[u8],
 ) -> Result<Option<Power>, Refusal>
-    requires { EvaluationOf store evaluation × DelegationOf store.delegations.digests store.delegations.count digest.now asked }
-    ensures { ConveyedPower (committed store) digest.now result }
+    requires { EvaluationOf store.now evaluation.now × DelegationOf store.now.delegations.digests store.now.delegations.count digest.now asked }
+    ensures { ConveyedPower (committed store.now) digest.now result }
 {
     match asked? {
         None => Ok(None),
         Some(d) => {
-            Ok(answer::level_of(evaluation::conveyed::conveyed_power(evaluation, d)))
+            Ok(answer::level_of(evaluation::conveyed::conveyed_power(*evaluation, d)))
         }
     }
 }

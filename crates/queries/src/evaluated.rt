@@ -1,12 +1,9 @@
 // The set with its evaluation and with hints where to look first, one value, so that no question can be put to the evaluation of another set. The
 // questions are those of powers, standings and gathered, each put to the two.
-//
-// Why seek_delegation and positive_power are written as they are: they are the two that every cheap question goes through, and their callers hand
-// the whole set on. Where a column is taken right before it is lent, the compiler lends the set's own and copies none.
 ghost use Rattle.answers.specs.Answers.{PositivePower, EffectivePower, ConveyedPower, IsLive, StandingAnswer, MembersAnswer, ClosureAnswer};
 ghost use Rattle.std.specs.Prelude.{◌≡◌};
 ghost use Rattle.answers.specs.Sought.{DelegationOf};
-ghost use Rattle.store.specs.Store.{committed, GoodStore};
+ghost use Rattle.store.specs.Store.{committed};
 ghost use Rattle.queries.specs.Evaluated.{held_by, GoodEvaluated};
 
 use answers::{answer, facts, sought};
@@ -28,16 +25,15 @@ pub struct Evaluated {
 }
 
 // The evaluation of the set as it stands; every question is put to what it gives.
-pub fn evaluate(store: Store) -> Evaluated
-    requires { GoodStore store }
-    ensures { GoodEvaluated result × (held_by result ≡ committed store) }
+pub fn evaluate(store: &Store) -> Evaluated
+    ensures { GoodEvaluated result × (held_by result ≡ committed store.now) }
 {
     let facts = facts::facts(store);
     let evaluation = evaluation::evaluate(facts);
     let front = hints::hints_of(store, FRONT);
     let back = hints::hints_of(store, BACK);
     Evaluated {
-        store,
+        store: *store,
         evaluation,
         front,
         back,
@@ -46,37 +42,30 @@ pub fn evaluate(store: Store) -> Evaluated
 
 impl Evaluated {
     // Where the delegation stands: as one of two hints has it, else as its digest is found.
-    fn seek_delegation(self, digest: &[u8]) -> Result<Option<DelegationPlace>, Refusal>
-        requires { GoodEvaluated self }
-        ensures { DelegationOf self.store.delegations.digests self.store.delegations.count digest.now result }
+    fn seek_delegation(&self, digest: &[u8]) -> Result<Option<DelegationPlace>, Refusal>
+        requires { GoodEvaluated self.now }
+        ensures { DelegationOf self.now.store.delegations.digests self.now.store.delegations.count digest.now result }
     {
         let n = self.store.delegations.count;
-        let digests = self.store.delegations.digests;
-        let front = self.front.delegations;
-        let d = hints::look(&digests, n, &front, FRONT, digest);
+        let d = hints::look(&self.store.delegations.digests, n, &self.front.delegations, FRONT, digest);
         if d < n {
             return Ok(Some(DelegationPlace(d)));
         }
-        let digests = self.store.delegations.digests;
-        let back = self.back.delegations;
-        let d = hints::look(&digests, n, &back, BACK, digest);
+        let d = hints::look(&self.store.delegations.digests, n, &self.back.delegations, BACK, digest);
         if d < n {
             return Ok(Some(DelegationPlace(d)));
         }
-        let digests = self.store.delegations.digests;
-        sought::seek_delegation(&digests, n, digest)
+        sought::seek_delegation(&self.store.delegations.digests, n, digest)
     }
 
     // The audience's power over the subject, were nothing ever revoked.
-    pub fn positive_power(self, subject: &[u8], audience: &[u8]) -> Result<Option<Power>, Refusal>
-        requires { GoodEvaluated self }
-        ensures { PositivePower (held_by self) subject.now audience.now result }
+    pub fn positive_power(&self, subject: &[u8], audience: &[u8]) -> Result<Option<Power>, Refusal>
+        requires { GoodEvaluated self.now }
+        ensures { PositivePower (held_by self.now) subject.now audience.now result }
     {
         let n = self.store.keys.count;
-        let table = self.store.keys.table;
-        let front = self.front.keys;
-        let s = hints::look(&table, n, &front, FRONT, subject);
-        let x = hints::look(&table, n, &front, FRONT, audience);
+        let s = hints::look(&self.store.keys.table, n, &self.front.keys, FRONT, subject);
+        let x = hints::look(&self.store.keys.table, n, &self.front.keys, FRONT, audience);
         if s < n {
             if x < n {
                 let p = evaluation::positive::positive_power(
@@ -87,10 +76,8 @@ impl Evaluated {
                 return Ok(answer::level_of(p));
             }
         }
-        let table = self.store.keys.table;
-        let back = self.back.keys;
-        let s = hints::look(&table, n, &back, BACK, subject);
-        let x = hints::look(&table, n, &back, BACK, audience);
+        let s = hints::look(&self.store.keys.table, n, &self.back.keys, BACK, subject);
+        let x = hints::look(&self.store.keys.table, n, &self.back.keys, BACK, audience);
         if s < n {
             if x < n {
                 let p = evaluation::positive::positive_power(
@@ -101,60 +88,60 @@ impl Evaluated {
                 return Ok(answer::level_of(p));
             }
         }
-        powers::positive_power(self.store, self.evaluation, subject, audience)
+        powers::positive_power(&self.store, &self.evaluation, subject, audience)
     }
 
     // The audience's power over the subject.
-    pub fn effective_power(self, subject: &[u8], audience: &[u8]) -> Result<Option<Power>, Refusal>
-        requires { GoodEvaluated self }
-        ensures { EffectivePower (held_by self) subject.now audience.now result }
+    pub fn effective_power(&self, subject: &[u8], audience: &[u8]) -> Result<Option<Power>, Refusal>
+        requires { GoodEvaluated self.now }
+        ensures { EffectivePower (held_by self.now) subject.now audience.now result }
     {
         match self.positive_power(subject, audience)? {
             None => Ok(None),
-            Some(_) => powers::effective_power(self.store, self.evaluation, subject, audience),
+            Some(_) => powers::effective_power(&self.store, &self.evaluation, subject, audience),
         }
     }
 
     // What the delegation conveys.
-    pub fn conveyed_power(self, digest: &[u8]) -> Result<Option<Power>, Refusal>
-        requires { GoodEvaluated self }
-        ensures { ConveyedPower (held_by self) digest.now result }
+    pub fn conveyed_power(&self, digest: &[u8]) -> Result<Option<Power>, Refusal>
+        requires { GoodEvaluated self.now }
+        ensures { ConveyedPower (held_by self.now) digest.now result }
     {
         let asked = self.seek_delegation(digest);
-        powers::conveyed_power(self.store, self.evaluation, asked, digest)
+        powers::conveyed_power(&self.store, &self.evaluation, asked, digest)
     }
 
     // Live, revoked or unsupported.
-    pub fn standing(self, digest: &[u8]) -> Result<Option<Standing>, Refusal>
-        requires { GoodEvaluated self }
-        ensures { StandingAnswer (held_by self) digest.now result }
+    pub fn standing(&self, digest: &[u8]) -> Result<Option<Standing>, Refusal>
+        requires { GoodEvaluated self.now }
+        ensures { StandingAnswer (held_by self.now) digest.now result }
     {
         let asked = self.seek_delegation(digest);
-        standings::standing(self.store, self.evaluation, asked, digest)
+        standings::standing(&self.store, &self.evaluation, asked, digest)
     }
 
     // Whether the delegation is live.
-    pub fn is_live(self, digest: &[u8]) -> Result<bool, Refusal>
-        requires { GoodEvaluated self }
-        ensures { IsLive (held_by self) digest.now result }
+    pub fn is_live(&self, digest: &[u8]) -> Result<bool, Refusal>
+        requires { GoodEvaluated self.now }
+        ensures { IsLive (held_by self.now) digest.now result }
     {
         let asked = self.seek_delegation(digest);
-        standings::is_live(self.store, self.evaluation, asked, digest)
+        standings::is_live(&self.store, &self.evaluation, asked, digest)
     }
 
     // The members of the subject, ascending: keys in one buffer, power bytes in another. The count comes from ones.
-    pub fn members(self, subject: &[u8], keys: &mut [u8], powers: &mut [u8]) -> Result<usize, Refusal>
-        requires { GoodEvaluated self }
-        ensures { MembersAnswer (held_by self) subject.now keys.old powers.old result keys.new powers.new }
+    pub fn members(&self, subject: &[u8], keys: &mut [u8], powers: &mut [u8]) -> Result<usize, Refusal>
+        requires { GoodEvaluated self.now }
+        ensures { MembersAnswer (held_by self.now) subject.now keys.old powers.old result keys.new powers.new }
     {
-        gathered::members::members(self.store, self.evaluation, subject, keys, powers)
+        gathered::members::members(&self.store, &self.evaluation, subject, keys, powers)
     }
 
     // Every held delegation whose subject is the one given or stands positively over it, and every held revocation that names one of them.
-    pub fn closure(self, subject: &[u8], out: &mut [u8]) -> Result<Counts, Refusal>
-        requires { GoodEvaluated self }
-        ensures { ClosureAnswer (held_by self) subject.now out.old result out.new }
+    pub fn closure(&self, subject: &[u8], out: &mut [u8]) -> Result<Counts, Refusal>
+        requires { GoodEvaluated self.now }
+        ensures { ClosureAnswer (held_by self.now) subject.now out.old result out.new }
     {
-        gathered::closure::closure(self.store, self.evaluation, subject, out)
+        gathered::closure::closure(&self.store, &self.evaluation, subject, out)
     }
 }

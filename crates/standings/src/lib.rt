@@ -14,34 +14,34 @@ use store::Store;
 
 // Live, revoked or unsupported.
 pub fn standing(
-    store: Store,
-    evaluation: Evaluation,
+    store: &Store,
+    evaluation: &Evaluation,
     asked: Result<Option<DelegationPlace>, Refusal>,
     digest: &[u8],
 ) -> Result<Option<Standing>, Refusal>
-    requires { EvaluationOf store evaluation × DelegationOf store.delegations.digests store.delegations.count digest.now asked }
-    ensures { StandingAnswer (committed store) digest.now result }
+    requires { EvaluationOf store.now evaluation.now × DelegationOf store.now.delegations.digests store.now.delegations.count digest.now asked }
+    ensures { StandingAnswer (committed store.now) digest.now result }
 {
     match asked? {
         None => Ok(None),
-        Some(d) => Ok(Some(evaluation::standing::standing_of(evaluation, d))),
+        Some(d) => Ok(Some(evaluation::standing::standing_of(*evaluation, d))),
     }
 }
 
 // Whether the delegation is live.
 pub fn is_live(
-    store: Store,
-    evaluation: Evaluation,
+    store: &Store,
+    evaluation: &Evaluation,
     asked: Result<Option<DelegationPlace>, Refusal>,
     digest: &[u8],
 ) -> Result<bool, Refusal>
-    requires { EvaluationOf store evaluation × DelegationOf store.delegations.digests store.delegations.count digest.now asked }
-    ensures { IsLive (committed store) digest.now result }
+    requires { EvaluationOf store.now evaluation.now × DelegationOf store.now.delegations.digests store.now.delegations.count digest.now asked }
+    ensures { IsLive (committed store.now) digest.now result }
 {
     match asked? {
         None => Ok(false),
         Some(d) => {
-            let standing = evaluation::standing::standing_of(evaluation, d);
+            let standing = evaluation::standing::standing_of(*evaluation, d);
             Ok(standing == Standing::Live)
         }
     }

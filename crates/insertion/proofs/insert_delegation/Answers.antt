@@ -1,7 +1,7 @@
 -- The answer is the one on what is committed; where it is Added, the three keys are in the table and each column has the new row.
-use Prim.Native.Nat.{ℕ, ◌+◌}
+use Prim.Native.Nat.{ℕ, ◌+◌, ◌<◌}
 use mathlib.Core.Path.{◌≡◌, refl, sym, ap, ◌∙◌}
-use mathlib.Core.Bool.{not}
+use mathlib.Core.Bool.{Bool, not}
 use mathlib.Core.List.{List, [], ◌∷◌}
 use native.Mathlib.Omega.{arith}
 use lib.ListN.{length, take, drop, set}
@@ -12,74 +12,77 @@ use Rattle.tables.specs.Committed.{Delegation}
 use Rattle.tables.specs.Insertion.{Seen, delegation_from, delegation_answer, delegation_added, with_delegation}
 use Rattle.tables.specs.Look.{delegation_there}
 use Rattle.store.specs.Store.{committed}
-use Rattle.store.specs.declared.Store.{Store}
-use Rattle.tables.proofs.PayloadLaws.{Parts, parts}
+use Rattle.power_levels.specs.declared.power.Power.{Power}
+use Rattle.codec.specs.Delegation.{decoded, citation_of}
+use Rattle.codec.specs.declared.delegation.Decoded.TheVariants.{Accepted}
+use Rattle.tables.proofs.PayloadLaws.{Cited, parts}
+use Rattle.tables.proofs.PayloadLaws as payload
 use Rattle.store.proofs.ViewLaws.{row_fits}
 use Rattle.insertion.proofs.AnswerLaws.{DelegationAdded, delegation_added_lem, delegation_seen}
 use Rattle.insertion.proofs.KeyLaws.{KeyRoom, can_intern, rest_room, three_keys, first_stands, second_stands, third_stands}
-use Rattle.insertion.proofs.NextLaws.{DelegationPushed, delegation_next, delegation_good}
-use Rattle.insertion.proofs.InsertionLaws.{is_added_lem, kept_law, added_law, room_for, key_room, cited_long, cited_before, cited_here}
-use Rattle.insertion.proofs.insert_delegation.Goals.{After-intern_small-i, After-is_added, Then-is_added}
+use Rattle.insertion.proofs.NextLaws.{Parts, DelegationPushed, delegation_next, delegation_good}
+use Rattle.insertion.proofs.InsertionLaws.{is_added_lem, added, room_for, key_room, cited_long, cited_before, cited_here}
+use Rattle.insertion.proofs.insert_delegation.Goals.{After-intern_small-i, After-is_added, After-push_large, Else-not-is_added}
 use Rattle.insertion.proofs.insert_delegation.Goals as goal
 
-there : Then-is_added → Seen Delegation
+there : Else-not-is_added → Seen Delegation
 there c =
-    let s = c.args.s in
+    let s = c.args.store.now in
     delegation_there s.keys.table s.keys.count s.delegations.citation s.delegations.count c.find-at.result c.row-row.result
 
-facts : (c : Then-is_added) → DelegationAdded (let s = c.args.s in
+facts : (c : Else-not-is_added) → DelegationAdded (let s = c.args.store.now in
     delegation_there s.keys.table s.keys.count s.delegations.citation s.delegations.count c.find-at.result c.row-row.result) c.args.digest.now c.args.issuer.now c.args.payload.now
 unfolding there
 facts c =
-    delegation_added_lem (let s = c.args.s in
+    delegation_added_lem (let s = c.args.store.now in
     delegation_there s.keys.table s.keys.count s.delegations.citation s.delegations.count c.find-at.result c.row-row.result) c.args.digest.now c.args.issuer.now c.args.payload.now
-    (sym c.delegation_answer-answer.ensures ∙ is_added_lem _ (sym c.is_added.ensures ∙ c.if-is_added.true))
+    (sym c.delegation_answer-answer.ensures ∙ is_added_lem _ (sym c.is_added.ensures ∙ c.if-not-is_added.false))
 
 -- the payload's parts
-part : (c : Then-is_added) → Parts c.args.payload.now
+part : (c : Else-not-is_added) → payload.Parts c.args.payload.now
 part c = let f = facts c in parts c.args.payload.now f.power f.tag f.read
 
 -- the audience and the subject
 others : Bytes → List Bytes
 others p = take key_length p ∷ take key_length (drop key_length p) ∷ []
 
-room : (c : Then-is_added) → KeyRoom c.args.s.keys.table c.args.s.keys.count (c.args.issuer.now ∷ others c.args.payload.now)
+room : (c : Else-not-is_added) → KeyRoom c.args.store.now.keys.table c.args.store.now.keys.count (c.args.issuer.now ∷ others c.args.payload.now)
 unfolding there others
 room c =
-    key_room c.args.s.keys.table c.args.s.keys.count (c.args.issuer.now ∷ others c.args.payload.now) c.requires.keys (facts c).keys
+    key_room c.args.store.now.keys.table c.args.store.now.keys.count (c.args.issuer.now ∷ others c.args.payload.now) c.args.store.now.good.keys (facts c).keys
 
 -- room for the subject once the issuer is in
-room-2 : (c : After-intern_small-i) → length c.args.issuer.now ≡ key_length → KeyRoom c.args.s.keys.table c.args.s.keys.count (c.args.issuer.now ∷ others c.args.payload.now)
+room-2 : (c : After-intern_small-i) → length c.args.issuer.now ≡ key_length → KeyRoom c.args.store.now.keys.table c.args.store.now.keys.count (c.args.issuer.now ∷ others c.args.payload.now)
     → KeyRoom c.intern_small-i.new.table c.intern_small-i.result.count (others c.args.payload.now)
 room-2 c long r =
-    rest_room c.args.s.keys.table c.args.s.keys.count c.requires.keys c.args.issuer.now (others c.args.payload.now) long r
+    rest_room c.args.store.now.keys.table c.args.store.now.keys.count c.args.store.now.good.keys c.args.issuer.now (others c.args.payload.now) long r
     c.intern_small-i.new.table c.intern_small-i.result c.intern_small-i.ensures
 
-answered : (c : After-is_added) → c.delegation_answer-answer.result ≡ delegation_answer (committed c.args.s) c.args.digest.now c.args.issuer.now c.args.payload.now
+answered : (c : After-is_added) → c.delegation_answer-answer.result ≡ delegation_answer (committed c.args.store.now) c.args.digest.now c.args.issuer.now c.args.payload.now
 answered c =
     c.delegation_answer-answer.ensures
-    ∙ rw c.row-row.ensures (delegation_seen c.args.s c.requires c.args.digest.now c.find-at.result c.find-at.ensures c.args.issuer.now c.args.payload.now)
+    ∙ rw c.row-row.ensures (delegation_seen c.args.store.now c.args.store.now.good c.args.digest.now c.find-at.result c.find-at.ensures c.args.issuer.now c.args.payload.now)
 
 pub delegation_answer-answer-requires : goal.delegation_answer-answer-requires
 delegation_answer-answer-requires c =
-    (c.requires.keys, λ h. rw c.row-row.ensures (row_fits c.args.s c.requires c.find-at.result h))
+    (c.args.store.now.good.keys, λ h. rw c.row-row.ensures (row_fits c.args.store.now c.args.store.now.good c.find-at.result h))
 
 pub intern_small-i-requires : goal.intern_small-i-requires
 intern_small-i-requires c =
-    can_intern c.args.s.keys.table c.args.s.keys.count c.requires.keys c.args.issuer.now (others c.args.payload.now) (facts (goal.at.intern_small-i-requires c).Then-is_added).issuer (room (goal.at.intern_small-i-requires c).Then-is_added)
+    can_intern c.args.store.now.keys.table c.args.store.now.keys.count c.args.store.now.good.keys c.args.issuer.now (others c.args.payload.now) (facts (goal.at.intern_small-i-requires c).Else-not-is_added).issuer (room (goal.at.intern_small-i-requires c).Else-not-is_added)
 
 pub slice_bounds-intern_small-end : goal.slice_bounds-intern_small-end
-slice_bounds-intern_small-end c = let q = (part (goal.at.slice_bounds-intern_small-end c).Then-is_added).long in omega arith
+slice_bounds-intern_small-end c = let q = (part (goal.at.slice_bounds-intern_small-end c).Else-not-is_added).long in omega arith
 
 pub intern_small-a-requires : goal.intern_small-a-requires
 unfolding others
 intern_small-a-requires c =
     let p = c.args.payload.now in
     let i = c.intern_small-i in
-    can_intern i.new.table i.result.count i.ensures.good (take key_length p) (take key_length (drop key_length p) ∷ []) (part (goal.at.intern_small-a-requires c).Then-is_added).audience (room-2 (goal.at.intern_small-a-requires c).After-intern_small-i (facts (goal.at.intern_small-a-requires c).Then-is_added).issuer (room (goal.at.intern_small-a-requires c).Then-is_added))
+    can_intern i.new.table i.result.count i.ensures.good (take key_length p) (take key_length (drop key_length p) ∷ []) (part (goal.at.intern_small-a-requires c).Else-not-is_added).audience (room-2 (goal.at.intern_small-a-requires c).After-intern_small-i (facts (goal.at.intern_small-a-requires c).Else-not-is_added).issuer (room (goal.at.intern_small-a-requires c).Else-not-is_added))
 
-pub slice_bounds-intern_small-end-then-is_added : goal.slice_bounds-intern_small-end-then-is_added
-slice_bounds-intern_small-end-then-is_added c = let q = (part (goal.at.slice_bounds-intern_small-end-then-is_added c).Then-is_added).long in omega arith
+pub slice_bounds-intern_small-end-2 : goal.slice_bounds-intern_small-end-2
+slice_bounds-intern_small-end-2 c = let q = (part (goal.at.slice_bounds-intern_small-end-2 c).Else-not-is_added).long in omega arith
 
 pub intern_small-u-requires : goal.intern_small-u-requires
 unfolding others
@@ -87,8 +90,8 @@ intern_small-u-requires c =
     let p = c.args.payload.now in
     let i = c.intern_small-i in
     let a = c.intern_small-a in
-    can_intern a.new.table a.result.count a.ensures.good (take key_length (drop key_length p)) [] (part (goal.at.intern_small-u-requires c).Then-is_added).subject
-    (rest_room i.new.table i.result.count i.ensures.good (take key_length p) (take key_length (drop key_length p) ∷ []) (part (goal.at.intern_small-u-requires c).Then-is_added).audience (room-2 (goal.at.intern_small-u-requires c).After-intern_small-i (facts (goal.at.intern_small-u-requires c).Then-is_added).issuer (room (goal.at.intern_small-u-requires c).Then-is_added)) a.new.table a.result a.ensures)
+    can_intern a.new.table a.result.count a.ensures.good (take key_length (drop key_length p)) [] (part (goal.at.intern_small-u-requires c).Else-not-is_added).subject
+    (rest_room i.new.table i.result.count i.ensures.good (take key_length p) (take key_length (drop key_length p) ∷ []) (part (goal.at.intern_small-u-requires c).Else-not-is_added).audience (room-2 (goal.at.intern_small-u-requires c).After-intern_small-i (facts (goal.at.intern_small-u-requires c).Else-not-is_added).issuer (room (goal.at.intern_small-u-requires c).Else-not-is_added)) a.new.table a.result a.ensures)
 
 pub set_key-requires : goal.set_key-requires
 unfolding there
@@ -96,90 +99,80 @@ set_key-requires c =
     let i = c.intern_small-i.ensures in
     let a = i.within in
     let b = i.good.room in
-    (c.requires.delegations.issuer.long, (facts (goal.at.set_key-requires c).Then-is_added).room, omega arith)
+    (c.args.store.now.good.delegations.issuer.long, (facts (goal.at.set_key-requires c).Else-not-is_added).room, omega arith)
 
-pub set_key-requires-then-is_added : goal.set_key-requires-then-is_added
+pub set_key-requires-2 : goal.set_key-requires-2
 unfolding there
-set_key-requires-then-is_added c =
+set_key-requires-2 c =
     let i = c.intern_small-a.ensures in
     let a = i.within in
     let b = i.good.room in
-    (c.requires.delegations.audience.long, (facts (goal.at.set_key-requires-then-is_added c).Then-is_added).room, omega arith)
+    (c.args.store.now.good.delegations.audience.long, (facts (goal.at.set_key-requires-2 c).Else-not-is_added).room, omega arith)
 
-pub set_key-requires-then-is_added-2 : goal.set_key-requires-then-is_added-2
+pub set_key-requires-3 : goal.set_key-requires-3
 unfolding there
-set_key-requires-then-is_added-2 c =
+set_key-requires-3 c =
     let i = c.intern_small-u.ensures in
     let a = i.within in
     let b = i.good.room in
-    (c.requires.delegations.subject.long, (facts (goal.at.set_key-requires-then-is_added-2 c).Then-is_added).room, omega arith)
+    (c.args.store.now.good.delegations.subject.long, (facts (goal.at.set_key-requires-3 c).Else-not-is_added).room, omega arith)
 
 pub set_rank-requires : goal.set_rank-requires
 unfolding there
-set_rank-requires c = (c.requires.delegations.power.long, (facts (goal.at.set_rank-requires c).Then-is_added).room)
+set_rank-requires c = (c.args.store.now.good.delegations.power.long, (facts (goal.at.set_rank-requires c).Else-not-is_added).room)
 
 pub set_flag-requires : goal.set_flag-requires
 unfolding there
-set_flag-requires c = (c.requires.delegations.cited, (facts (goal.at.set_flag-requires c).Then-is_added).room)
+set_flag-requires c = (c.args.store.now.good.delegations.cited, (facts (goal.at.set_flag-requires c).Else-not-is_added).room)
 
 pub put_citation-requires : goal.put_citation-requires
 unfolding there
-put_citation-requires c = (c.requires.delegations.citation, (facts (goal.at.put_citation-requires c).Then-is_added).room)
+put_citation-requires c = (c.args.store.now.good.delegations.citation, (facts (goal.at.put_citation-requires c).Else-not-is_added).room)
 
 pub push_large-requires : goal.push_large-requires
 unfolding there
 push_large-requires c =
-    let f = facts (goal.at.push_large-requires c).Then-is_added in
-    room_for delegation_limit c.args.s.delegations.digests c.args.s.delegations.count c.args.digest.now c.find-at.result.0 c.requires.delegations.digests (omega arith) f.room f.digest c.find-at.ensures f.new
+    let f = facts (goal.at.push_large-requires c).Else-not-is_added in
+    room_for delegation_limit c.args.store.now.delegations.digests c.args.store.now.delegations.count c.args.digest.now c.find-at.result.0 c.args.store.now.good.delegations.digests (omega arith) f.room f.digest c.find-at.ensures f.new
 
-pub overflow_add-s : goal.overflow_add-s
-unfolding there
-overflow_add-s c = let f = (facts (goal.at.overflow_add-s c).Then-is_added).room in omega arith
+-- the parts of the store once all is written
+next : After-push_large → Parts
+next c = record {
+  keys = record { table = c.intern_small-u.new.table; count = c.intern_small-u.result.count };
+  delegations = record {
+    digests = c.push_large.new.table;
+    count = c.args.store.now.delegations.count + 1;
+    issuer = c.set_key.new.column;
+    audience = c.set_key-2.new.column;
+    subject = c.set_key-3.new.column;
+    power = c.set_rank.new.column;
+    cited = c.set_flag.new.column;
+    citation = c.put_citation.new.column;
+  };
+  revocations = c.args.store.now.revocations;
+  version = c.args.store.now.version + 1;
+}
 
-pub overflow_add-s-then-is_added : goal.overflow_add-s-then-is_added
-overflow_add-s-then-is_added c =
-    let v = c.requires.version in
-    let a = c.requires.delegations.digests.room in
-    let b = c.requires.revocations.digests.room in
-    omega arith
-
-pub returns-then-is_added : goal.returns-then-is_added
-unfolding there
-returns-then-is_added c =
-    let st = c.args.s in
-    let d = c.args.digest.now in
+pushed : (c : After-push_large) → c.args.store.now.delegations.count < delegation_limit → (w : Power) (t : Bool) → decoded c.args.payload.now ≡ Accepted w t → Cited (citation_of c.args.payload.now)
+    → DelegationPushed c.args.store.now (next c) (delegation_from c.args.digest.now c.args.issuer.now c.args.payload.now w)
+unfolding next
+pushed c room w t read cited =
+    let st = c.args.store.now in
     let i = c.args.issuer.now in
     let p = c.args.payload.now in
-    let f = facts (goal.at.returns-then-is_added c).Then-is_added in
     let n = st.delegations.count in
     let k1 = c.intern_small-i in
     let k2 = c.intern_small-a in
     let k3 = c.intern_small-u in
     let x = c.citation-citation.result.now in
     let col = st.delegations.citation in
-    let l = c.requires.delegations.citation in
+    let l = st.good.delegations.citation in
     let a = take key_length p in
     let b = take key_length (drop key_length p) in
-    let g = delegation_from d i p f.power in
-    let u : Store = record {
-      keys = record { table = k3.new.table; count = k3.result.count };
-      delegations = record {
-        digests = c.push_large.new.table;
-        count = n + 1;
-        issuer = c.set_key.new.column;
-        audience = c.set_key-then-is_added.new.column;
-        subject = c.set_key-then-is_added-2.new.column;
-        power = c.set_rank.new.column;
-        cited = c.set_flag.new.column;
-        citation = c.put_citation.new.column;
-      };
-      revocations = st.revocations;
-      version = st.version + 1;
-    } in
-    let h : DelegationPushed st u g = record {
+    record {
       keys = three_keys st.keys.table k1.new.table k2.new.table k3.new.table st.keys.count i a b k1.result k2.result k3.result k1.ensures k2.ensures k3.ensures;
       digests = c.push_large.ensures;
-      room = f.room;
+      room = room;
       count = refl;
       issuer = record {
         place = k1.result.place;
@@ -188,31 +181,52 @@ returns-then-is_added c =
       };
       audience = record {
         place = k2.result.place;
-        is_set = c.set_key-then-is_added.ensures;
+        is_set = c.set_key-2.ensures;
         stands = second_stands st.keys.table k1.new.table k2.new.table k3.new.table st.keys.count i a b k1.result k2.result k3.result k1.ensures k2.ensures k3.ensures;
       };
       subject = record {
         place = k3.result.place;
-        is_set = c.set_key-then-is_added-2.ensures;
+        is_set = c.set_key-3.ensures;
         stands = third_stands st.keys.table k1.new.table k2.new.table k3.new.table st.keys.count i a b k1.result k2.result k3.result k1.ensures k2.ensures k3.ensures;
       };
-      power = c.set_rank.ensures ∙ ap (λ (r : ℕ). set st.delegations.power n r) (c.rank_of.ensures ∙ rw f.read);
+      power = c.set_rank.ensures ∙ ap (λ (r : ℕ). set st.delegations.power n r) (c.rank_of.ensures ∙ rw read);
       flag = not (eqb (length x) 0);
       cited = c.set_flag.ensures;
-      long = rw c.put_citation.ensures (cited_long delegation_limit n col l f.room x);
-      before = λ j q. rw c.put_citation.ensures (cited_before delegation_limit n col l f.room x j q);
-      citation = rw c.put_citation.ensures (cited_here delegation_limit n col l f.room x (rw c.citation-citation.ensures (part (goal.at.returns-then-is_added c).Then-is_added).citation) ∙ c.citation-citation.ensures);
+      long = rw c.put_citation.ensures (cited_long delegation_limit n col l room x);
+      before = λ j q. rw c.put_citation.ensures (cited_before delegation_limit n col l room x j q);
+      citation = rw c.put_citation.ensures (cited_here delegation_limit n col l room x (rw c.citation-citation.ensures cited) ∙ c.citation-citation.ensures);
       revocations = refl;
       version = refl;
-    } in
-    let e : with_delegation (committed st) g ≡ delegation_added (committed st) d i p = rw f.read in
-    added_law st u c.delegation_answer-answer.result (delegation_answer (committed st) d i p) (delegation_added (committed st) d i p)
-    (delegation_good st u c.requires g h) (delegation_next st u c.requires g h ∙ e) (answered (goal.at.returns-then-is_added c).After-is_added) (sym c.is_added.ensures ∙ c.if-is_added.true)
+    }
 
-pub returns-else-is_added : goal.returns-else-is_added
-returns-else-is_added c =
+pub invariant_of-store-2 : goal.invariant_of-store-2
+unfolding there next
+invariant_of-store-2 c =
+    let st = c.args.store.now in
+    let e = (goal.at.invariant_of-store-2 c).Else-not-is_added in
+    let f = facts e in
+    let p = (goal.at.invariant_of-store-2 c).After-push_large in
+    record {
+      good = delegation_good st (next p) st.good (delegation_from c.args.digest.now c.args.issuer.now c.args.payload.now f.power) (pushed p f.room f.power f.tag f.read (part e).citation);
+    }
+
+pub returns-then-not-is_added-clause-answer : goal.returns-then-not-is_added-clause-answer
+returns-then-not-is_added-clause-answer c = answered (goal.at.returns-then-not-is_added-clause-answer c).After-is_added
+
+pub returns-clause-answer : goal.returns-clause-answer
+returns-clause-answer c = answered (goal.at.returns-clause-answer c).After-is_added
+
+pub returns-clause-held : goal.returns-clause-held
+unfolding there next
+returns-clause-held c =
+    let st = c.args.store.now in
     let d = c.args.digest.now in
     let i = c.args.issuer.now in
-    let p = c.args.payload.now in
-    kept_law c.args.s c.delegation_answer-answer.result (delegation_answer (committed c.args.s) d i p) (delegation_added (committed c.args.s) d i p)
-    c.requires (answered (goal.at.returns-else-is_added c).After-is_added) (sym c.is_added.ensures ∙ c.if-is_added.false)
+    let x = c.args.payload.now in
+    let e = (goal.at.returns-clause-held c).Else-not-is_added in
+    let f = facts e in
+    let p = (goal.at.returns-clause-held c).After-push_large in
+    let g = delegation_from d i x f.power in
+    let with : with_delegation (committed st) g ≡ delegation_added (committed st) d i x = rw f.read in
+    added c.delegation_answer-answer.result (committed st) _ _ (sym c.is_added.ensures ∙ c.if-not-is_added.false)
+    (delegation_next st (next p) st.good g (pushed p f.room f.power f.tag f.read (part e).citation) ∙ with)

@@ -5,7 +5,7 @@ use Rattle.answers.proofs.facts.facts.Goals as goal
 
 pub returns : goal.returns
 returns c =
-    let g = c.requires in (
+    let g = c.args.store.now.good in (
       record {
         delegations_le = g.delegations.digests.room;
         revocations_le = g.revocations.digests.room;
@@ -23,7 +23,7 @@ returns c =
         delegations = refl;
         revoker = refl;
         revocations = refl;
-        target_long = c.targets-target.ensures.0;
-        target = c.targets-target.ensures.1;
+        target_long = c.targets.ensures.0;
+        target = c.targets.ensures.1;
       },
     )
