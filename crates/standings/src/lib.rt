@@ -42,7 +42,11 @@ pub fn is_live(
         None => Ok(false),
         Some(d) => {
             let standing = evaluation::standing::standing_of(*evaluation, d);
-            Ok(standing == Standing::Live)
+            match standing {
+                Standing::Live => Ok(true),
+                Standing::Revoked => Ok(false),
+                Standing::Unsupported => Ok(false),
+            }
         }
     }
 }

@@ -4,53 +4,55 @@ use Rattle.answers.specs.Answers as says
 use Rattle.answers.proofs.Places.{table}
 use Rattle.rules.proofs.Stores.Places.{standing_bytes}
 use Rattle.answers.specs.Answers.{IsLive}
-use Rattle.answers.proofs.Cases.{lives, dies_revoked, dies_unsupported, delegation_at_place, delegation_unheld, delegation_refused, not_held, is_held, with_is}
+use Rattle.answers.proofs.Cases.{handed_on, lives, dies_revoked, dies_unsupported, delegation_at_place, delegation_unheld, delegation_refused, not_held, is_held, with_is}
 use Rattle.standings.proofs.is_live.Goals as goal
-use Rattle.std.specs.Prelude.{Err}
+use mathlib.Core.Path.{ap, ◌∙◌}
+use Rattle.std.specs.Prelude.{Ok, Err}
 
-pub standing_of-is-requires : goal.standing_of-is-requires
-standing_of-is-requires c =
+pub standing_of-standing-requires : goal.standing_of-standing-requires
+standing_of-standing-requires c =
     let g = c.requires.0 in
-    let a = delegation_at_place c.requires.1 c.in-At.is in
+    let a = delegation_at_place c.requires.1 (c.in_ok-asked.was ∙ ap Ok c.in-Some.is) in
     (g.evaluation, rw g.facts.delegations a.within)
 
-pub returns-in-Refused : goal.returns-in-Refused
-returns-in-Refused c =
+pub returns-in_err-asked : goal.returns-in_err-asked
+returns-in_err-asked c =
     let s = c.args in
-    delegation_refused (λ w. IsLive (committed s.store) s.digest.now (Err w)) says.digest-length c.requires.1 c.in-Refused.is
+    rw (handed_on c.from_residual.result c.in_err-asked.field-0.0 c.from_residual.ensures.1)
+    (delegation_refused (λ w. IsLive (committed s.store.now) s.digest.now (Err w)) says.digest-length c.requires.1 c.in_err-asked.was)
 
-pub returns-in-Unheld : goal.returns-in-Unheld
-returns-in-Unheld c =
+pub returns-in-None : goal.returns-in-None
+returns-in-None c =
     let s = c.args in
-    let n = delegation_unheld c.requires.1 c.in-Unheld.is in
-    says.absent n.long (not_held s.store c.requires.0.store s.digest.now n)
+    let n = delegation_unheld c.requires.1 (c.in_ok-asked.was ∙ ap Ok c.in-None.is) in
+    says.absent n.long (not_held s.store.now c.requires.0.store s.digest.now n)
 
 pub returns-in-Live : goal.returns-in-Live
 returns-in-Live c =
     let s = c.args in
     let g = c.requires.0 in
-    let st = s.store in
+    let st = s.store.now in
     let x = s.digest.now in
-    let a = delegation_at_place c.requires.1 c.in-At.is in
-    let t = standing_bytes (table st g.store s.evaluation.facts g.facts) (rw g.facts.delegations a.within) (rw c.in-Live.is at c.standing_of-is.ensures) in
-    says.live a.long (is_held st g.store x c.in-At.d a) (rw (with_is st g.store x c.in-At.d a) (lives t))
+    let a = delegation_at_place c.requires.1 (c.in_ok-asked.was ∙ ap Ok c.in-Some.is) in
+    let t = standing_bytes (table st g.store s.evaluation.now.facts g.facts) (rw g.facts.delegations a.within) (rw c.in-Live.is at c.standing_of-standing.ensures) in
+    says.live a.long (is_held st g.store x c.in-Some.d a) (rw (with_is st g.store x c.in-Some.d a) (lives t))
 
 pub returns-in-Revoked : goal.returns-in-Revoked
 returns-in-Revoked c =
     let s = c.args in
     let g = c.requires.0 in
-    let st = s.store in
+    let st = s.store.now in
     let x = s.digest.now in
-    let a = delegation_at_place c.requires.1 c.in-At.is in
-    let t = standing_bytes (table st g.store s.evaluation.facts g.facts) (rw g.facts.delegations a.within) (rw c.in-Revoked.is at c.standing_of-is.ensures) in
-    says.dead a.long (is_held st g.store x c.in-At.d a) (rw (with_is st g.store x c.in-At.d a) (dies_revoked t))
+    let a = delegation_at_place c.requires.1 (c.in_ok-asked.was ∙ ap Ok c.in-Some.is) in
+    let t = standing_bytes (table st g.store s.evaluation.now.facts g.facts) (rw g.facts.delegations a.within) (rw c.in-Revoked.is at c.standing_of-standing.ensures) in
+    says.dead a.long (is_held st g.store x c.in-Some.d a) (rw (with_is st g.store x c.in-Some.d a) (dies_revoked t))
 
 pub returns-in-Unsupported : goal.returns-in-Unsupported
 returns-in-Unsupported c =
     let s = c.args in
     let g = c.requires.0 in
-    let st = s.store in
+    let st = s.store.now in
     let x = s.digest.now in
-    let a = delegation_at_place c.requires.1 c.in-At.is in
-    let t = standing_bytes (table st g.store s.evaluation.facts g.facts) (rw g.facts.delegations a.within) (rw c.in-Unsupported.is at c.standing_of-is.ensures) in
-    says.dead a.long (is_held st g.store x c.in-At.d a) (rw (with_is st g.store x c.in-At.d a) (dies_unsupported t))
+    let a = delegation_at_place c.requires.1 (c.in_ok-asked.was ∙ ap Ok c.in-Some.is) in
+    let t = standing_bytes (table st g.store s.evaluation.now.facts g.facts) (rw g.facts.delegations a.within) (rw c.in-Unsupported.is at c.standing_of-standing.ensures) in
+    says.dead a.long (is_held st g.store x c.in-Some.d a) (rw (with_is st g.store x c.in-Some.d a) (dies_unsupported t))

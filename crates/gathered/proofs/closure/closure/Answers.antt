@@ -69,7 +69,7 @@ slice_bounds-write_both-end-in-At c = sym c.requires.store.revocations.digests.l
 
 pub write_both-requires : goal.write_both-requires
 write_both-requires c =
-    let st = c.args.store in
+    let st = c.args.store.now in
     let g = c.requires.store in (
       stand delegation_limit st.delegations.digests st.delegations.count g.delegations.digests (omega arith) c.in_nodes-dels.result c.choose-a.result c.choose-a.ensures,
       stand revocation_limit st.revocations.digests st.revocations.count g.revocations.digests (omega arith) c.naming-revs.result c.choose-b.result c.choose-b.ensures,
@@ -78,7 +78,7 @@ write_both-requires c =
 pub returns-in-Refused : goal.returns-in-Refused
 returns-in-Refused c =
     let s = c.args in
-    key_refused (λ w. ClosureAnswer (committed s.store) s.subject.now s.out.now (Err w) s.out.now) (λ h. says.subject-length h) c.seek_key-asked.ensures c.in-Refused.is
+    key_refused (λ w. ClosureAnswer (committed s.store.now) s.subject.now s.out.now (Err w) s.out.now) (λ h. says.subject-length h) c.seek_key-asked.ensures c.in-Refused.is
 
 pub returns-in-Unheld : goal.returns-in-Unheld
 unfolding front joined
@@ -86,14 +86,14 @@ returns-in-Unheld c =
     let s = c.args in
     let g = c.requires in
     let a = key_unheld c.seek_key-asked.ensures c.in-Unheld.is in
-    says.answered a.long (no_closure s.store g.store s.subject.now a.absent) (omega arith)
+    says.answered a.long (no_closure s.store.now g.store s.subject.now a.absent) (omega arith)
 
 pub returns-in-At : goal.returns-in-At
 returns-in-At c =
     let s = c.args in
     let g = c.requires in
     let a = key_at c.seek_key-asked.ensures c.in-At.is in
-    closure_answer s.store g.store s.evaluation.facts g.facts c.in-At.s.0 a.within c.nodes-nodes.result c.nodes-nodes.ensures
+    closure_answer s.store.now g.store s.evaluation.now.facts g.facts c.in-At.s.0 a.within c.nodes-nodes.result c.nodes-nodes.ensures
     c.in_nodes-dels.result c.naming-revs.result c.in_nodes-dels.ensures c.naming-revs.ensures
     c.choose-a.result c.choose-b.result c.choose-a.ensures c.choose-b.ensures
     a.long a.is c.write_both.ensures.0 c.write_both.ensures.1

@@ -46,7 +46,7 @@ returns-then-keys-need c =
     let s = c.args in
     let g = c.requires in
     let a = key_at c.seek_key-asked.ensures c.in-At.is in
-    keys_small s.store g.store s.evaluation.facts g.facts g.evaluation.grades.caps c.in-At.s.0 a.within
+    keys_small s.store.now g.store s.evaluation.now.facts g.facts g.evaluation.grades.caps c.in-At.s.0 a.within
     c.levels-row.result c.levels-row.ensures c.member_marks-on.result c.member_marks-on.ensures c.member_word.result c.member_word.ensures
     c.choose-c.result c.choose-c.ensures c.count-k.result c.count-k.ensures a.long a.is (omega arith)
 
@@ -55,7 +55,7 @@ returns-then-powers-k c =
     let s = c.args in
     let g = c.requires in
     let a = key_at c.seek_key-asked.ensures c.in-At.is in
-    powers_small s.store g.store s.evaluation.facts g.facts g.evaluation.grades.caps c.in-At.s.0 a.within
+    powers_small s.store.now g.store s.evaluation.now.facts g.facts g.evaluation.grades.caps c.in-At.s.0 a.within
     c.levels-row.result c.levels-row.ensures c.member_marks-on.result c.member_marks-on.ensures c.member_word.result c.member_word.ensures
     c.choose-c.result c.choose-c.ensures c.count-k.result c.count-k.ensures a.long a.is (omega arith) (omega arith)
 
@@ -67,7 +67,7 @@ put_runs-requires c =
     let s = c.args in
     let g = c.requires in
     let a = key_at c.seek_key-asked.ensures c.in-At.is in
-    listable s.store g.store s.evaluation.facts g.facts g.evaluation.grades.caps c.in-At.s.0 a.within
+    listable s.store.now g.store s.evaluation.now.facts g.facts g.evaluation.grades.caps c.in-At.s.0 a.within
     c.levels-row.result c.levels-row.ensures c.member_marks-on.result c.member_marks-on.ensures c.member_word.result c.member_word.ensures
     c.choose-c.result c.choose-c.ensures c.count-k.result c.count-k.ensures s.keys.now (omega arith)
 
@@ -76,14 +76,14 @@ put_values-requires c =
     let s = c.args in
     let g = c.requires in
     let a = key_at c.seek_key-asked.ensures c.in-At.is in
-    valued s.store g.store s.evaluation.facts g.facts g.evaluation.grades.caps c.in-At.s.0 a.within
+    valued s.store.now g.store s.evaluation.now.facts g.facts g.evaluation.grades.caps c.in-At.s.0 a.within
     c.levels-row.result c.levels-row.ensures c.member_marks-on.result c.member_marks-on.ensures c.member_word.result c.member_word.ensures
     c.choose-c.result c.choose-c.ensures c.count-k.result c.count-k.ensures c.letters-letters.result c.letters-letters.ensures s.powers.now (omega arith)
 
 pub returns-in-Refused : goal.returns-in-Refused
 returns-in-Refused c =
     let s = c.args in
-    key_refused (λ w. MembersAnswer (committed s.store) s.subject.now s.keys.now s.powers.now (Err w) s.keys.now s.powers.now) (λ h. says.subject-length h) c.seek_key-asked.ensures c.in-Refused.is
+    key_refused (λ w. MembersAnswer (committed s.store.now) s.subject.now s.keys.now s.powers.now (Err w) s.keys.now s.powers.now) (λ h. says.subject-length h) c.seek_key-asked.ensures c.in-Refused.is
 
 pub returns-in-Unheld : goal.returns-in-Unheld
 unfolding front joined
@@ -91,13 +91,13 @@ returns-in-Unheld c =
     let s = c.args in
     let g = c.requires in
     let a = key_unheld c.seek_key-asked.ensures c.in-Unheld.is in
-    says.answered a.long (no_members s.store g.store s.evaluation.facts g.facts g.evaluation.grades.caps s.subject.now a.absent) (omega arith) (omega arith)
+    says.answered a.long (no_members s.store.now g.store s.evaluation.now.facts g.facts g.evaluation.grades.caps s.subject.now a.absent) (omega arith) (omega arith)
 
 pub returns-else-powers-k : goal.returns-else-powers-k
 returns-else-powers-k c =
     let s = c.args in
     let g = c.requires in
     let a = key_at c.seek_key-asked.ensures c.in-At.is in
-    members_answered s.store g.store s.evaluation.facts g.facts g.evaluation.grades.caps c.in-At.s.0 a.within
+    members_answered s.store.now g.store s.evaluation.now.facts g.facts g.evaluation.grades.caps c.in-At.s.0 a.within
     c.levels-row.result c.levels-row.ensures c.member_marks-on.result c.member_marks-on.ensures c.member_word.result c.member_word.ensures
     c.choose-c.result c.choose-c.ensures c.count-k.result c.count-k.ensures a.long a.is c.letters-letters.result c.letters-letters.ensures (omega arith) (omega arith) c.put_runs.ensures c.put_values.ensures
