@@ -3,7 +3,7 @@
 // no contract says what a hint is.
 #![tactic(auto)]
 
-ghost use Rattle.std.specs.Prelude.{◌≡◌, ◌+◌, ◌*◌, ◌<◌, ◌≤◌, length};
+ghost use Rattle.std.specs.Prelude.{◌≡◌, ◌+◌, ◌*◌, ◌<◌, ◌≤◌, length, IfSome};
 ghost use Rattle.runs.specs.Bytes.{run_length, run_at, eq_bytes};
 ghost use Rattle.runs.specs.Table.{large_limit};
 ghost use Rattle.hints.specs.Slots.{slots};
@@ -73,20 +73,18 @@ fn same(table: &[u8], i: usize, run: &[u8]) -> bool
     is
 }
 
-// The place of the run, if the hint is right; n where it is not, be the run in the table or not.
-pub fn look(table: &[u8], n: usize, hints: &[u8; SLOTS], way: usize, run: &[u8]) -> usize
-    requires { (run_length * n ≤ length table.now) × (length hints.now ≡ slots) × (way + 1 < run_length) }
-    ensures { result < n → run_at table.now result ≡ run.now }
+// The place of the run, if the hint is right; None where it is not, be the run in the table or not.
+pub fn look(table: &[u8], n: usize, hints: &[u8; SLOTS], way: usize, run: &[u8]) -> Option<usize>
+    requires { (run_length * n ≤ length table.now) × (way + 1 < run_length) }
+    ensures { IfSome result (λ i. (i < n) × (run_at table.now i ≡ run.now)) }
 {
     if run.len() != RUN_LENGTH {
-        return n;
+        return None;
     }
     let k = slot(run[way], run[way + 1]);
     let i = wide(hints[k]);
-    if i < n {
-        if same(&table[..], i, &run[..]) {
-            return i;
-        }
+    if i < n && same(table, i, run) {
+        return Some(i);
     }
-    n
+    None
 }

@@ -9,8 +9,8 @@ use Rattle.runs.specs.Bytes.{Bytes, run_length, run_at}
 use Rattle.runs.specs.Table.{GoodRuns}
 use Rattle.runs.proofs.ByteLaws.{length_run}
 use Rattle.answers.specs.Sought as found
-use Rattle.answers.specs.Sought.{DelegationOf}
-use Rattle.answers.proofs.Cases.{AtPair}
+use Rattle.answers.specs.Sought.{PairOf, DelegationOf}
+use Rattle.answers.specs.declared.sought.Pair.TheVariants.{At}
 use Rattle.std.specs.Prelude.{Ok, Some}
 
 module _ {limit n : ℕ} {t : Bytes} (g : GoodRuns limit t n) where
@@ -20,15 +20,8 @@ module _ {limit n : ℕ} {t : Bytes} (g : GoodRuns limit t n) where
   is_run : {i : ℕ} {x : Bytes} → i < n → run_at t i ≡ x → length x ≡ run_length
   is_run {i} h e = sym (ap (λ (b : Bytes). length b) e) ∙ length_run t i (let f = fits in omega arith)
 
-  pub hinted_delegation : {d : DelegationPlace} {x : Bytes} → d.0 < n → (d.0 < n → run_at t d.0 ≡ x) → DelegationOf t n x (Ok (Some d))
-  hinted_delegation h e = found.held (is_run h (e h)) h (e h)
+  pub hinted_delegation : {d : DelegationPlace} {x : Bytes} → d.0 < n → run_at t d.0 ≡ x → DelegationOf t n x (Ok (Some d))
+  hinted_delegation h e = found.held (is_run h e) h e
 
-  pub hinted_pair : {i j : KeyPlace} {s x : Bytes} → i.0 < n → j.0 < n → (i.0 < n → run_at t i.0 ≡ s) → (j.0 < n → run_at t j.0 ≡ x) → AtPair t n s x i j
-  hinted_pair h k e f = record {
-    subject_long = is_run h (e h);
-    audience_long = is_run k (f k);
-    subject_in = h;
-    subject_is = e h;
-    audience_in = k;
-    audience_is = f k;
-  }
+  pub hinted_pair : {i j : KeyPlace} {s x : Bytes} → i.0 < n → j.0 < n → run_at t i.0 ≡ s → run_at t j.0 ≡ x → PairOf t n s x (Ok (At i j))
+  hinted_pair h k e f = found.held (is_run h e) (is_run k f) h e k f

@@ -1,14 +1,16 @@
 // The set with its evaluation and with hints where to look first, one value, so that no question can be put to the evaluation of another set. The
 // questions are those of powers, standings and gathered, each put to the two.
 ghost use Rattle.answers.specs.Answers.{PositivePower, EffectivePower, ConveyedPower, IsLive, StandingAnswer, MembersAnswer, ClosureAnswer};
-ghost use Rattle.std.specs.Prelude.{◌≡◌};
-ghost use Rattle.answers.specs.Sought.{DelegationOf};
+ghost use Rattle.std.specs.Prelude.{◌≡◌, ◌+◌, ◌<◌, Ok, IfSome};
+ghost use Rattle.runs.specs.Bytes.{run_length};
+ghost use Rattle.answers.specs.Sought.{PairOf, DelegationOf};
 ghost use Rattle.store.specs.Store.{committed};
 ghost use Rattle.queries.specs.Evaluated.{held_by, GoodEvaluated};
 
-use answers::{answer, facts, sought};
+use answers::sought::Pair;
+use answers::{facts, sought};
 use evaluation::Evaluation;
-use hints::{BACK, FRONT, Hints};
+use hints::{BACK, FRONT, Hints, SLOTS};
 use keyline::refusal::Refusal;
 use keyline::standing::Standing;
 use lists::write::Counts;
@@ -41,21 +43,52 @@ pub fn evaluate(store: &Store) -> Evaluated
 }
 
 impl Evaluated {
+    // Where two keys stand, if the hints of one way are right for both.
+    fn hinted(
+        &self,
+        hints: &[u8; SLOTS],
+        way: usize,
+        subject: &[u8],
+        audience: &[u8],
+    ) -> Option<Pair>
+        requires { GoodEvaluated self.now × (way + 1 < run_length) }
+        ensures { IfSome result (λ p. PairOf self.now.store.keys.table self.now.store.keys.count subject.now audience.now (Ok p)) }
+    {
+        let keys = &self.store.keys;
+        let s = hints::look(&keys.table, keys.count, hints, way, subject)?;
+        let x = hints::look(&keys.table, keys.count, hints, way, audience)?;
+        Some(Pair::At(KeyPlace(s), KeyPlace(x)))
+    }
+
+    // Where two keys stand: as hints have them, else as they are found.
+    fn seek_pair(&self, subject: &[u8], audience: &[u8]) -> Result<Pair, Refusal>
+        requires { GoodEvaluated self.now }
+        ensures { PairOf self.now.store.keys.table self.now.store.keys.count subject.now audience.now result }
+    {
+        if let Some(pair) = self.hinted(&self.front.keys, FRONT, subject, audience) {
+            return Ok(pair);
+        }
+        if let Some(pair) = self.hinted(&self.back.keys, BACK, subject, audience) {
+            return Ok(pair);
+        }
+        let keys = &self.store.keys;
+        sought::seek_pair(&keys.table, keys.count, subject, audience)
+    }
+
     // Where the delegation stands: as one of two hints has it, else as its digest is found.
     fn seek_delegation(&self, digest: &[u8]) -> Result<Option<DelegationPlace>, Refusal>
         requires { GoodEvaluated self.now }
         ensures { DelegationOf self.now.store.delegations.digests self.now.store.delegations.count digest.now result }
     {
         let n = self.store.delegations.count;
-        let d = hints::look(&self.store.delegations.digests, n, &self.front.delegations, FRONT, digest);
-        if d < n {
+        let digests = &self.store.delegations.digests;
+        if let Some(d) = hints::look(digests, n, &self.front.delegations, FRONT, digest) {
             return Ok(Some(DelegationPlace(d)));
         }
-        let d = hints::look(&self.store.delegations.digests, n, &self.back.delegations, BACK, digest);
-        if d < n {
+        if let Some(d) = hints::look(digests, n, &self.back.delegations, BACK, digest) {
             return Ok(Some(DelegationPlace(d)));
         }
-        sought::seek_delegation(&self.store.delegations.digests, n, digest)
+        sought::seek_delegation(digests, n, digest)
     }
 
     // The audience's power over the subject, were nothing ever revoked.
@@ -63,42 +96,21 @@ impl Evaluated {
         requires { GoodEvaluated self.now }
         ensures { PositivePower (held_by self.now) subject.now audience.now result }
     {
-        let n = self.store.keys.count;
-        let s = hints::look(&self.store.keys.table, n, &self.front.keys, FRONT, subject);
-        let x = hints::look(&self.store.keys.table, n, &self.front.keys, FRONT, audience);
-        if s < n {
-            if x < n {
-                let p = evaluation::positive::positive_power(
-                    self.evaluation,
-                    KeyPlace(s),
-                    KeyPlace(x),
-                );
-                return Ok(answer::level_of(p));
-            }
-        }
-        let s = hints::look(&self.store.keys.table, n, &self.back.keys, BACK, subject);
-        let x = hints::look(&self.store.keys.table, n, &self.back.keys, BACK, audience);
-        if s < n {
-            if x < n {
-                let p = evaluation::positive::positive_power(
-                    self.evaluation,
-                    KeyPlace(s),
-                    KeyPlace(x),
-                );
-                return Ok(answer::level_of(p));
-            }
-        }
-        powers::positive_power(&self.store, &self.evaluation, subject, audience)
+        let asked = self.seek_pair(subject, audience);
+        powers::positive_power(&self.store, &self.evaluation, asked, subject, audience)
     }
 
-    // The audience's power over the subject.
+    // The audience's power over the subject. Nobody holds effectively what he does not hold positively, and most keys hold nothing.
     pub fn effective_power(&self, subject: &[u8], audience: &[u8]) -> Result<Option<Power>, Refusal>
         requires { GoodEvaluated self.now }
         ensures { EffectivePower (held_by self.now) subject.now audience.now result }
     {
-        match self.positive_power(subject, audience)? {
+        let asked = self.seek_pair(subject, audience);
+        match powers::positive_power(&self.store, &self.evaluation, asked, subject, audience)? {
             None => Ok(None),
-            Some(_) => powers::effective_power(&self.store, &self.evaluation, subject, audience),
+            Some(_) => {
+                powers::effective_power(&self.store, &self.evaluation, asked, subject, audience)
+            }
         }
     }
 

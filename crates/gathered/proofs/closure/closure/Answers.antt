@@ -1,5 +1,5 @@
 -- `closure` meets its contract: what was sought settles the case, and the chosen places are the closure's.
-use mathlib.Core.Path.{sym}
+use mathlib.Core.Path.{sym, ap, ◌∙◌}
 use native.Mathlib.Omega.{arith}
 use Rattle.lent.specs.Bytes.{front}
 use Rattle.runs.specs.Bytes.{joined}
@@ -9,10 +9,11 @@ use Rattle.lists.proofs.ChosenLaws.{stand}
 use Rattle.answers.specs.Answers as says
 use Rattle.answers.specs.Answers.{ClosureAnswer}
 use Rattle.answers.proofs.Closures.{no_closure}
+use Rattle.answers.proofs.Cases.{handed_on}
 use Rattle.answers.proofs.Seeking.{key_refused, key_unheld, key_at}
 use Rattle.answers.proofs.ClosureAnswered.{closure_answer}
 use Rattle.gathered.proofs.closure.closure.Goals as goal
-use Rattle.std.specs.Prelude.{Err}
+use Rattle.std.specs.Prelude.{Ok, Err}
 
 pub slice_bounds-seek_key-end : goal.slice_bounds-seek_key-end
 slice_bounds-seek_key-end c = sym c.requires.store.keys.long
@@ -20,7 +21,7 @@ slice_bounds-seek_key-end c = sym c.requires.store.keys.long
 pub nodes-nodes-requires : goal.nodes-nodes-requires
 nodes-nodes-requires c =
     let g = c.requires in
-    let a = key_at c.seek_key-asked.ensures c.in-At.is in
+    let a = key_at c.seek_key.ensures (c.in_ok-seek_key.was ∙ ap Ok c.in-Some.is) in
     let h = a.within in
     let r = g.store.keys.room in
     (g.evaluation, omega arith)
@@ -51,8 +52,8 @@ choose-a-requires c =
     let k = c.in_nodes-dels.ensures.long in
     (g.store.delegations.digests, omega arith, omega arith)
 
-pub slice_bounds-choose-end-in-At-2 : goal.slice_bounds-choose-end-in-At-2
-slice_bounds-choose-end-in-At-2 c = sym c.requires.store.revocations.digests.long
+pub slice_bounds-choose-end-in-Some-2 : goal.slice_bounds-choose-end-in-Some-2
+slice_bounds-choose-end-in-Some-2 c = sym c.requires.store.revocations.digests.long
 
 pub choose-b-requires : goal.choose-b-requires
 choose-b-requires c =
@@ -64,8 +65,8 @@ choose-b-requires c =
 pub slice_bounds-write_both-end : goal.slice_bounds-write_both-end
 slice_bounds-write_both-end c = sym c.requires.store.delegations.digests.long
 
-pub slice_bounds-write_both-end-in-At : goal.slice_bounds-write_both-end-in-At
-slice_bounds-write_both-end-in-At c = sym c.requires.store.revocations.digests.long
+pub slice_bounds-write_both-end-in-Some : goal.slice_bounds-write_both-end-in-Some
+slice_bounds-write_both-end-in-Some c = sym c.requires.store.revocations.digests.long
 
 pub write_both-requires : goal.write_both-requires
 write_both-requires c =
@@ -75,25 +76,26 @@ write_both-requires c =
       stand revocation_limit st.revocations.digests st.revocations.count g.revocations.digests (omega arith) c.naming-revs.result c.choose-b.result c.choose-b.ensures,
     )
 
-pub returns-in-Refused : goal.returns-in-Refused
-returns-in-Refused c =
+pub returns-in_err-seek_key : goal.returns-in_err-seek_key
+returns-in_err-seek_key c =
     let s = c.args in
-    key_refused (λ w. ClosureAnswer (committed s.store.now) s.subject.now s.out.now (Err w) s.out.now) (λ h. says.subject-length h) c.seek_key-asked.ensures c.in-Refused.is
+    rw (handed_on c.from_residual.result c.in_err-seek_key.field-0.0 c.from_residual.ensures.1)
+    (key_refused (λ w. ClosureAnswer (committed s.store.now) s.subject.now s.out.now (Err w) s.out.now) (λ h. says.subject-length h) c.seek_key.ensures c.in_err-seek_key.was)
 
-pub returns-in-Unheld : goal.returns-in-Unheld
+pub returns-in-None : goal.returns-in-None
 unfolding front joined
-returns-in-Unheld c =
+returns-in-None c =
     let s = c.args in
     let g = c.requires in
-    let a = key_unheld c.seek_key-asked.ensures c.in-Unheld.is in
+    let a = key_unheld c.seek_key.ensures (c.in_ok-seek_key.was ∙ ap Ok c.in-None.is) in
     says.answered a.long (no_closure s.store.now g.store s.subject.now a.absent) (omega arith)
 
-pub returns-in-At : goal.returns-in-At
-returns-in-At c =
+pub returns-in-Some : goal.returns-in-Some
+returns-in-Some c =
     let s = c.args in
     let g = c.requires in
-    let a = key_at c.seek_key-asked.ensures c.in-At.is in
-    closure_answer s.store.now g.store s.evaluation.now.facts g.facts c.in-At.s.0 a.within c.nodes-nodes.result c.nodes-nodes.ensures
+    let a = key_at c.seek_key.ensures (c.in_ok-seek_key.was ∙ ap Ok c.in-Some.is) in
+    closure_answer s.store.now g.store s.evaluation.now.facts g.facts c.in-Some.s.0 a.within c.nodes-nodes.result c.nodes-nodes.ensures
     c.in_nodes-dels.result c.naming-revs.result c.in_nodes-dels.ensures c.naming-revs.ensures
     c.choose-a.result c.choose-b.result c.choose-a.ensures c.choose-b.ensures
     a.long a.is c.write_both.ensures.0 c.write_both.ensures.1

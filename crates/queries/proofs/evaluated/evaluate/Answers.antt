@@ -14,7 +14,7 @@ evaluate-evaluation-requires c = c.facts-facts.ensures.0
 pub returns : goal.returns
 returns c = (
   record {
-    store = c.requires;
+    store = c.args.store.now.good;
     facts = facts_kept c.evaluate-evaluation.ensures.0 c.facts-facts.ensures.1;
     evaluation = c.evaluate-evaluation.ensures.1;
   },
