@@ -9,6 +9,7 @@ use mathlib.Core.Option.{Option}
 use mathlib.Core.List.Memᴰ
 use mathlib.Core.List.{List, [], ◌∷◌, ◌++◌, map, Memᴰ}
 use native.Mathlib.Omega.{arith}
+use Rattle.std.specs.Prelude.{Result}
 use lib.ListN.{length, get_or, length-map}
 use Rattle.rules.specs.Rules.{Admin, Nobody, d1, Standing, Closure, Live, ConveyedIs, StandingIs}
 use Rattle.rules.specs.OneClosure.{ListedIn, RestsOnClosure}
@@ -25,7 +26,7 @@ use Rattle.runs.proofs.MemberLaws.{mem_has, has_mem, has_not, same_long}
 use Rattle.runs.proofs.FreshLaws.{fresh_same, all_has, all_distinct}
 use Rattle.runs.proofs.AscentLaws.{lt_not_both}
 use Rattle.tables.specs.Committed.{Delegation, Revocation, Committed, nothing, no_delegation, no_revocation, delegation_digests, revocation_digests, delegation_with, revocation_with, delegation_keys, revocation_keys, keys_in, keys}
-use Rattle.tables.specs.Insertion.{seen_delegation, delegation_check, accepted_answer, payload_answer, keys_answer, delegation_from, revocation_check, revocation_settled, revocation_from}
+use Rattle.tables.specs.Insertion.{seen_delegation, delegation_check, accepted_answer, payload_answer, keys_answer, delegation_from, delegation_added, revocation_check, revocation_settled, revocation_from, revocation_added, settled}
 use Rattle.lists.specs.Lists.{listing, names, from_to}
 use Rattle.lists.proofs.AreLists.{is_list}
 use Rattle.answers.specs.Graph.{graph, store}
@@ -34,6 +35,8 @@ use Rattle.answers.proofs.Equality.{finite}
 use Rattle.answers.proofs.Settled.{conveyed_power_settled, is_live_settled, standing_answer_settled}
 use Rattle.answers.proofs.OneClosure.{demand_3}
 use Rattle.keyline_memory.specs.State.{held_in}
+use Rattle.keyline.specs.declared.refusal.Refusal.{Refusal}
+use Rattle.tables.specs.declared.answer.Outcome.{Outcome}
 use Rattle.keyline_memory.specs.declared.state.State.{State}
 use Rattle.order.specs.AnyOrder.{Certificate, delegation, revocation, answer_to, held_after, held_after_all, none_refused, Among, Came, started, delegated, revoked, SameHeld, SameSets}
 use Rattle.order.proofs.Inserting.{found, one_each, HasKey, del_key, rev_key, key_of}
@@ -220,9 +223,15 @@ last_held (j ∷ ks) c k = last_held ks (held_after c j) k
 -- what such a State holds
 pub came_held : {ks : List Certificate} {s : State} → Came ks s → held_in s ≡ held_after_all nothing ks
 unfolding held_after_all held_after
-came_held (started g e) = e
-came_held (delegated {ks = ks} d i p c n) = n.held ∙ (ap (λ (y : Committed). held_after y (delegation d i p)) (came_held c) ∙ sym (last_held ks nothing (delegation d i p)))
-came_held (revoked {ks = ks} d i x c n) = n.held ∙ (ap (λ (y : Committed). held_after y (revocation d i x)) (came_held c) ∙ sym (last_held ks nothing (revocation d i x)))
+came_held (started e) = e
+came_held (delegated {ks = ks} {s = s} d i p c n) =
+    n.held
+    ∙ (ap (λ (z : Result Outcome Refusal). settled z (held_in s) (delegation_added (held_in s) d i p)) n.answer
+    ∙ (ap (λ (y : Committed). held_after y (delegation d i p)) (came_held c) ∙ sym (last_held ks nothing (delegation d i p))))
+came_held (revoked {ks = ks} {s = s} d i x c n) =
+    n.held
+    ∙ (ap (λ (z : Result Outcome Refusal). settled z (held_in s) (revocation_added (held_in s) d i x)) n.answer
+    ∙ (ap (λ (y : Committed). held_after y (revocation d i x)) (came_held c) ∙ sym (last_held ks nothing (revocation d i x))))
 
 -- Two States to which the same certificates came, in any order and any number of times: where none was refused on the way to the one, none
 -- was on the way to the other, and they answer every call alike.

@@ -7,11 +7,10 @@ use Rattle.runs.specs.Members.{has}
 use Rattle.tables.specs.Committed.{Delegation, Revocation, Committed, nothing, length_of, delegation_digests, revocation_digests, delegation_with, revocation_with}
 use Rattle.tables.specs.Insertion.{delegation_answer, delegation_added, revocation_answer, revocation_added, settled}
 use Rattle.lists.specs.Lists.{certificate_delegations, certificate_revocations, subjects_of, revocations_of, delegations_to}
-use Rattle.keyline_memory.specs.State.{held_in, GoodState, Insertion}
+use Rattle.keyline_memory.specs.State.{held_in, Insertion}
 use Rattle.answers.specs.Answers.{IsLive, ConveyedPower, StandingAnswer}
 use Rattle.answers.specs.OneClosure.{SameAnswers}
 use Rattle.keyline_memory.specs.declared.state.State.{State}
-use Rattle.keyline_memory.specs.declared.state.Inserted.{Inserted}
 use Rattle.tables.specs.declared.answer.Outcome.{Outcome}
 use Rattle.keyline.specs.declared.refusal.Refusal.{Refusal}
 use Rattle.tables.specs.declared.answer.Outcome.TheVariants.{Added, NotAdded}
@@ -55,11 +54,11 @@ Among ks ls = (k : Certificate) → Memᴰ k ks → Memᴰ k ls
 
 -- A State that came from `new` by the insertion of ks, one after the other, as the contracts of the three calls say it.
 pub data Came : List Certificate → State → Type 0 where
-  started : {s : State} → GoodState s → held_in s ≡ nothing → Came [] s
-  delegated : {ks : List Certificate} {s : State} {r : Inserted} (d i p : Bytes) → Came ks s
-      → Insertion s r (delegation_answer (held_in s) d i p) (delegation_added (held_in s) d i p) → Came (ks ++ (delegation d i p ∷ [])) r.state
-  revoked : {ks : List Certificate} {s : State} {r : Inserted} (d i x : Bytes) → Came ks s
-      → Insertion s r (revocation_answer (held_in s) d i x) (revocation_added (held_in s) d i x) → Came (ks ++ (revocation d i x ∷ [])) r.state
+  started : {s : State} → held_in s ≡ nothing → Came [] s
+  delegated : {ks : List Certificate} {s t : State} {r : Result Outcome Refusal} (d i p : Bytes) → Came ks s
+      → Insertion s t r (delegation_answer (held_in s) d i p) (delegation_added (held_in s) d i p) → Came (ks ++ (delegation d i p ∷ [])) t
+  revoked : {ks : List Certificate} {s t : State} {r : Result Outcome Refusal} (d i x : Bytes) → Came ks s
+      → Insertion s t r (revocation_answer (held_in s) d i x) (revocation_added (held_in s) d i x) → Came (ks ++ (revocation d i x ∷ [])) t
 
 -- ## What does not depend on the order
 -- two sets that hold the same certificates

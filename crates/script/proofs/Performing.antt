@@ -9,10 +9,9 @@ use borrow.Rule.Slice.PartMut.{mid_of, put_mid}
 use Rattle.runs.specs.Bytes.{Bytes}
 use Rattle.tables.specs.Committed.{Committed, nothing}
 use Rattle.tables.specs.Insertion.{settled}
-use Rattle.keyline_memory.specs.State.{held_in, GoodState, Insertion}
+use Rattle.keyline_memory.specs.State.{held_in, Insertion}
 use Rattle.queries.specs.Evaluated.{held_by, GoodEvaluated}
 use Rattle.keyline_memory.specs.declared.state.State.{State}
-use Rattle.keyline_memory.specs.declared.state.Inserted.{Inserted}
 use Rattle.queries.specs.declared.evaluated.Evaluated.{Evaluated}
 use Rattle.wire.specs.Reply.{head_length, valued}
 use Rattle.wire.specs.Reply as reply
@@ -66,7 +65,6 @@ same_length done k o y h l =
 
 -- ---- the loop
 pub record Performing (s o₀ o : Bytes) (state : State) (evaluated : Evaluated) (at done : ℕ) : Type 0 where
-  pub good : GoodState state
   pub worked_out : GoodEvaluated evaluated
   pub within : at ≤ length s
   pub long : length o ≡ length o₀
@@ -74,12 +72,11 @@ pub record Performing (s o₀ o : Bytes) (state : State) (evaluated : Evaluated)
   pub todo : Script (drop at s) (length o - done)
   pub so_far : (t : Bytes) → Runs (held_in state) (held_by evaluated) (drop at s) (drop done o) t → Runs nothing nothing s o₀ (take done o ++ t)
 
-pub begin : {s o : Bytes} {state : State} {evaluated : Evaluated} → GoodState state → held_in state ≡ nothing → GoodEvaluated evaluated → held_by evaluated ≡ held_in state
+pub begin : {s o : Bytes} {state : State} {evaluated : Evaluated} → held_in state ≡ nothing → GoodEvaluated evaluated → held_by evaluated ≡ held_in state
     → Script s (length o) → Performing s o o state evaluated 0 0
-begin {s} {o} {state} {evaluated} g n w h t =
+begin {s} {o} {state} {evaluated} n w h t =
     let e : length o ≡ length o - 0 = omega arith in
     record {
-      good = g;
       worked_out = w;
       within = omega arith;
       long = refl;
@@ -97,19 +94,18 @@ done_after done q = done + head_length + q.room + q.other
 
 module _ (s o₀ o : Bytes) (state : State) (evaluated : Evaluated) (at done : ℕ) (i : Performing s o₀ o state evaluated at done) (later : State) (anew : Evaluated) (y : Bytes) where
   -- one reply more, with the request as the definition reads it
-  step : GoodState later → GoodEvaluated anew → (q : Request) → q ≡ request_of (drop at s) → Whole (drop at s) → length_of q ≤ length (drop at s) → needs q ≤ length o - done
+  step : GoodEvaluated anew → (q : Request) → q ≡ request_of (drop at s) → Whole (drop at s) → length_of q ≤ length (drop at s) → needs q ≤ length o - done
       → Script (drop (length_of q) (drop at s)) (length o - done - needs q) → length y ≡ needs q
       → Replied (held_in state) (held_by evaluated) (first_part (drop at s)) (second_part (drop at s)) (third_part (drop at s)) (room_in q.room (take (needs q) (drop done o))) (zeros q.other) q.operation (held_in later) (held_by anew) y
       → (k m : ℕ) → k ≡ at + length_of q → m ≡ done + needs q → Performing s o₀ (put_mid done (needs q) o y) later anew k m
-  step g w q e all l f t n r k m ek em =
+  step w q e all l f t n r k m ek em =
       let u = i.room in
       let z = length-drop done o in
       let v = length-drop at s in
       let c = i.within in
       let p : length (put_mid done (needs q) o y) ≡ length o = same_length done (needs q) o y (omega arith) n in
       record {
-        good = g;
-        worked_out = w;
+          worked_out = w;
         within = omega arith;
         long = p ∙ i.long;
         room = omega arith;
@@ -137,15 +133,15 @@ module _ (s o₀ o : Bytes) (state : State) (evaluated : Evaluated) (at done : �
           (subst (λ p. Replied (held_in state) (held_by evaluated) (first_part (drop at s)) (second_part (drop at s)) (third_part (drop at s)) p (zeros q.other) q.operation (held_in later) (held_by anew) y) (room_of_part q.room q.other (drop done o) inside) r)
 
   -- .. and as the code has it
-  pub advance : (q : Request) → NextOf (mid_of at (length s - at) s) (length o - done) q → GoodState later → GoodEvaluated anew → length y ≡ needs q
+  pub advance : (q : Request) → NextOf (mid_of at (length s - at) s) (length o - done) q → GoodEvaluated anew → length y ≡ needs q
       → Replied (held_in state) (held_by evaluated) (first_part (mid_of at (length s - at) s)) (second_part (mid_of at (length s - at) s)) (third_part (mid_of at (length s - at) s)) (room_in q.room (mid_of done (done_after done q - done) o)) (zeros q.other) q.operation (held_in later) (held_by anew) y
       → Performing s o₀ (put_mid done (done_after done q - done) o y) later anew (at_after at q) (done_after done q)
-  advance q x g w n r =
+  advance q x w n r =
       let e : done_after done q - done ≡ needs q = omega arith in
       let p = rest_lent s at i.within in
       let h = subst (λ z. NextOf z (length o - done) q) p x in
       subst (λ k. Performing s o₀ (put_mid done k o y) later anew (at_after at q) (done_after done q)) (sym e)
-      (step g w q h.is h.whole h.within h.fits h.rest n
+      (step w q h.is h.whole h.within h.fits h.rest n
       (subst (λ k. Replied (held_in state) (held_by evaluated) (first_part (drop at s)) (second_part (drop at s)) (third_part (drop at s)) (room_in q.room (mid_of done k o)) (zeros q.other) q.operation (held_in later) (held_by anew) y) e
       (subst (λ z. Replied (held_in state) (held_by evaluated) (first_part z) (second_part z) (third_part z) (room_in q.room (mid_of done (done_after done q - done) o)) (zeros q.other) q.operation (held_in later) (held_by anew) y) p r))
       (at_after at q) (done_after done q) (omega arith) (omega arith))
@@ -166,33 +162,33 @@ module _ {s o₀ o : Bytes} {state : State} {evaluated : Evaluated} {at done : �
       let e : done_after done q - done ≡ needs q = omega arith in
       record { is = x.is; within = x.within; long = rw e (length-take-le (needs q) (drop done o) (rw (length-drop done o) f)); other = x.other }
 
-  changed : {later : State} {y : Bytes} {w : Change} → q.operation ≡ operation.Change w → GoodState later → length y ≡ needs q
+  changed : {later : State} {y : Bytes} {w : Change} → q.operation ≡ operation.Change w → length y ≡ needs q
       → ChangeReplied (held_in state) (first_part (mid_of at (length s - at) s)) (second_part (mid_of at (length s - at) s)) (third_part (mid_of at (length s - at) s)) (room_in q.room (mid_of done (done_after done q - done) o)) (zeros q.other) w (held_in later) y
       → Performing s o₀ (put_mid done (done_after done q - done) o y) later evaluated (at_after at q) (done_after done q)
-  changed {later} {y} {w} e g n r =
-      advance s o₀ o state evaluated at done i later evaluated y q x g i.worked_out n
+  changed {later} {y} {w} e n r =
+      advance s o₀ o state evaluated at done i later evaluated y q x i.worked_out n
       (subst (λ k. Replied (held_in state) (held_by evaluated) (first_part (mid_of at (length s - at) s)) (second_part (mid_of at (length s - at) s)) (third_part (mid_of at (length s - at) s)) (room_in q.room (mid_of done (done_after done q - done) o)) (zeros q.other) k (held_in later) (held_by evaluated) y) (sym e) (run.changed r))
 
-  pub renewed : {fresh : State} {y : Bytes} → q.operation ≡ operation.Change change.New → GoodState fresh → held_in fresh ≡ nothing → length y ≡ needs q
+  pub renewed : {fresh : State} {y : Bytes} → q.operation ≡ operation.Change change.New → held_in fresh ≡ nothing → length y ≡ needs q
       → y ≡ inPlace (valued 0) (room_in q.room (mid_of done (done_after done q - done) o)) (zeros q.other)
       → Performing s o₀ (put_mid done (done_after done q - done) o y) fresh evaluated (at_after at q) (done_after done q)
-  renewed e g h n r = changed e g n (replied run.new h r)
+  renewed e h n r = changed e n (replied run.new h r)
 
   -- an insertion, whose set is the one afterwards
   pub inserted : {a : Result Outcome Refusal} {new : Committed} {w : Change}
       → Changes (held_in state) (first_part (mid_of at (length s - at) s)) (second_part (mid_of at (length s - at) s)) (third_part (mid_of at (length s - at) s)) w (reply.inserted a) (settled a (held_in state) new)
-      → {r : Inserted} → Insertion state r a new → {later : State} → later ≡ r.state → {y : Bytes} → q.operation ≡ operation.Change w → length y ≡ needs q
-      → y ≡ inPlace (reply.inserted r.answer) (room_in q.room (mid_of done (done_after done q - done) o)) (zeros q.other)
+      → {r : Result Outcome Refusal} {later : State} → Insertion state later r a new → {y : Bytes} → q.operation ≡ operation.Change w → length y ≡ needs q
+      → y ≡ inPlace (reply.inserted r) (room_in q.room (mid_of done (done_after done q - done) o)) (zeros q.other)
       → Performing s o₀ (put_mid done (done_after done q - done) o y) later evaluated (at_after at q) (done_after done q)
-  inserted {a} {new} {w} t {r} j {later} l {y} e n b =
-      changed e (subst GoodState (sym l) j.good) n
-      (replied t (ap held_in l ∙ j.held) (b ∙ ap (λ z. inPlace (reply.inserted z) (room_in q.room (mid_of done (done_after done q - done) o)) (zeros q.other)) j.answer))
+  inserted {a} {new} {w} t {r} {later} j {y} e n b =
+      changed e n
+      (replied t (j.held ∙ ap (λ z. settled z (held_in state) new) j.answer) (b ∙ ap (λ z. inPlace (reply.inserted z) (room_in q.room (mid_of done (done_after done q - done) o)) (zeros q.other)) j.answer))
 
   pub worked : {anew : Evaluated} {y : Bytes} → q.operation ≡ operation.Evaluate → GoodEvaluated anew → held_by anew ≡ held_in state → length y ≡ needs q
       → y ≡ inPlace (valued 0) (room_in q.room (mid_of done (done_after done q - done) o)) (zeros q.other)
       → Performing s o₀ (put_mid done (done_after done q - done) o y) state anew (at_after at q) (done_after done q)
   worked {anew} {y} e g h n r =
-      advance s o₀ o state evaluated at done i state anew y q x i.good g n
+      advance s o₀ o state evaluated at done i state anew y q x g n
       (subst (λ k. Replied (held_in state) (held_by evaluated) (first_part (mid_of at (length s - at) s)) (second_part (mid_of at (length s - at) s)) (third_part (mid_of at (length s - at) s)) (room_in q.room (mid_of done (done_after done q - done) o)) (zeros q.other) k (held_in state) (held_by anew) y) (sym e)
       (subst (λ d. Replied (held_in state) (held_by evaluated) (first_part (mid_of at (length s - at) s)) (second_part (mid_of at (length s - at) s)) (third_part (mid_of at (length s - at) s)) (room_in q.room (mid_of done (done_after done q - done) o)) (zeros q.other) operation.Evaluate (held_in state) d y) (sym h)
       (subst (λ b. Replied (held_in state) (held_by evaluated) (first_part (mid_of at (length s - at) s)) (second_part (mid_of at (length s - at) s)) (third_part (mid_of at (length s - at) s)) (room_in q.room (mid_of done (done_after done q - done) o)) (zeros q.other) operation.Evaluate (held_in state) (held_in state) b) (sym r) run.evaluate)))
@@ -201,14 +197,14 @@ module _ {s o₀ o : Bytes} {state : State} {evaluated : Evaluated} {at done : �
       → StateReplied (held_in state) (first_part (mid_of at (length s - at) s)) (second_part (mid_of at (length s - at) s)) (room_in q.room (mid_of done (done_after done q - done) o)) (zeros q.other) w y
       → Performing s o₀ (put_mid done (done_after done q - done) o y) state evaluated (at_after at q) (done_after done q)
   asked_state {y} {w} e n r =
-      advance s o₀ o state evaluated at done i state evaluated y q x i.good i.worked_out n
+      advance s o₀ o state evaluated at done i state evaluated y q x i.worked_out n
       (subst (λ k. Replied (held_in state) (held_by evaluated) (first_part (mid_of at (length s - at) s)) (second_part (mid_of at (length s - at) s)) (third_part (mid_of at (length s - at) s)) (room_in q.room (mid_of done (done_after done q - done) o)) (zeros q.other) k (held_in state) (held_by evaluated) y) (sym e) (run.state_asked r))
 
   pub asked_evaluated : {y : Bytes} {w : OfEvaluated} → q.operation ≡ operation.OfEvaluated w → length y ≡ needs q
       → EvaluatedReplied (held_by evaluated) (first_part (mid_of at (length s - at) s)) (second_part (mid_of at (length s - at) s)) (room_in q.room (mid_of done (done_after done q - done) o)) (zeros q.other) w y
       → Performing s o₀ (put_mid done (done_after done q - done) o y) state evaluated (at_after at q) (done_after done q)
   asked_evaluated {y} {w} e n r =
-      advance s o₀ o state evaluated at done i state evaluated y q x i.good i.worked_out n
+      advance s o₀ o state evaluated at done i state evaluated y q x i.worked_out n
       (subst (λ k. Replied (held_in state) (held_by evaluated) (first_part (mid_of at (length s - at) s)) (second_part (mid_of at (length s - at) s)) (third_part (mid_of at (length s - at) s)) (room_in q.room (mid_of done (done_after done q - done) o)) (zeros q.other) k (held_in state) (held_by evaluated) y) (sym e) (run.evaluated_asked r))
 
 -- the bounds of one request, for the code's sums

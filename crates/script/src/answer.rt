@@ -1,7 +1,7 @@
 // A reply in its own part of the answers: the head, the first room, the second room. The first room is lent from the middle; the second
 // begins as zeros in a buffer of its own, since two parts of one buffer are not lent at once.
 ghost use Rattle.std.specs.Prelude.{◌≡◌, ◌+◌, ◌≤◌, length};
-ghost use Rattle.keyline_memory.specs.State.{held_in, GoodState};
+ghost use Rattle.keyline_memory.specs.State.{held_in};
 ghost use Rattle.queries.specs.Evaluated.{held_by, GoodEvaluated};
 ghost use Rattle.wire.specs.Reply.{head_length, valued, inserted};
 ghost use Rattle.wire.specs.Request.{Asked, other_limit, first_part, second_part};
@@ -31,7 +31,7 @@ pub fn put(out: &mut [u8], room: usize, r: Reply, other: &[u8])
 }
 
 fn state_in(
-    state: State,
+    state: &State,
     what: OfState,
     x: &[u8],
     y: &[u8],
@@ -39,16 +39,22 @@ fn state_in(
     out: &mut [u8],
     other: &mut [u8],
 )
-    requires { GoodState state × (length out.old ≡ head_length + room + length other.old) }
-    ensures { StateReplied (held_in state) x.now y.now (room_in room out.old) other.old what out.new }
+    requires { length out.old ≡ head_length + room + length other.old }
+    ensures { StateReplied (held_in state.now) x.now y.now (room_in room out.old) other.old what out.new }
 {
     let r = ask::ask_state(state, what, x, y, &mut out[HEAD..HEAD + room], other);
     put(out, room, r, other);
 }
 
-pub fn answer_state(state: State, asked: OfState, q: Request, script: &[u8], out: &mut [u8])
-    requires { GoodState state × Asked q script.now out.old }
-    ensures { StateReplied (held_in state) (first_part script.now) (second_part script.now) (room_in q.room out.old) (zeros q.other) asked out.new }
+pub fn answer_state(
+    state: &State,
+    asked: OfState,
+    q: Request,
+    script: &[u8],
+    out: &mut [u8],
+)
+    requires { Asked q script.now out.old }
+    ensures { StateReplied (held_in state.now) (first_part script.now) (second_part script.now) (room_in q.room out.old) (zeros q.other) asked out.new }
 {
     let mut second = [0u8; OTHER_LIMIT];
     let a = HEADER + q.first;
@@ -66,7 +72,7 @@ pub fn answer_state(state: State, asked: OfState, q: Request, script: &[u8], out
 }
 
 fn evaluated_in(
-    evaluated: Evaluated,
+    evaluated: &Evaluated,
     what: OfEvaluated,
     x: &[u8],
     y: &[u8],
@@ -74,22 +80,22 @@ fn evaluated_in(
     out: &mut [u8],
     other: &mut [u8],
 )
-    requires { GoodEvaluated evaluated × (length out.old ≡ head_length + room + length other.old) }
-    ensures { EvaluatedReplied (held_by evaluated) x.now y.now (room_in room out.old) other.old what out.new }
+    requires { GoodEvaluated evaluated.now × (length out.old ≡ head_length + room + length other.old) }
+    ensures { EvaluatedReplied (held_by evaluated.now) x.now y.now (room_in room out.old) other.old what out.new }
 {
     let r = ask::ask_evaluated(evaluated, what, x, y, &mut out[HEAD..HEAD + room], other);
     put(out, room, r, other);
 }
 
 pub fn answer_evaluated(
-    evaluated: Evaluated,
+    evaluated: &Evaluated,
     asked: OfEvaluated,
     q: Request,
     script: &[u8],
     out: &mut [u8],
 )
-    requires { GoodEvaluated evaluated × Asked q script.now out.old }
-    ensures { EvaluatedReplied (held_by evaluated) (first_part script.now) (second_part script.now) (room_in q.room out.old) (zeros q.other) asked out.new }
+    requires { GoodEvaluated evaluated.now × Asked q script.now out.old }
+    ensures { EvaluatedReplied (held_by evaluated.now) (first_part script.now) (second_part script.now) (room_in q.room out.old) (zeros q.other) asked out.new }
 {
     let mut second = [0u8; OTHER_LIMIT];
     let a = HEADER + q.first;

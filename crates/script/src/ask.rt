@@ -1,22 +1,28 @@
 // Each operation as a call of State or Evaluated on the request's arguments and rooms.
 ghost use Rattle.std.specs.Prelude.{◌≡◌, ◌≤◌, length};
-ghost use Rattle.keyline_memory.specs.State.{held_in, GoodState, Insertion};
+ghost use Rattle.keyline_memory.specs.State.{held_in, Insertion};
 ghost use Rattle.queries.specs.Evaluated.{held_by, GoodEvaluated};
 ghost use Rattle.tables.specs.Insertion.{delegation_answer, delegation_added, revocation_answer, revocation_added};
 ghost use Rattle.wire.specs.Request.{request_of, length_of, first_part, second_part, third_part};
 ghost use Rattle.script.specs.Run.{StateAnswers, EvaluatedAnswers};
 
-use keyline_memory::state::{Inserted, State};
+use keyline::refusal::Refusal;
+use keyline_memory::state::State;
 use queries::evaluated::Evaluated;
+use tables::answer::Outcome;
 use wire::operation::{OfEvaluated, OfState};
 use wire::reply;
 use wire::reply::Reply;
 use wire::request::{HEADER, Request};
 
 // The insertions, with the request's arguments.
-pub fn insert_delegation(state: State, q: Request, script: &[u8]) -> Inserted
-    requires { GoodState state × (q ≡ request_of script.now) × (length_of q ≤ length script.now) }
-    ensures { Insertion state result (delegation_answer (held_in state) (first_part script.now) (second_part script.now) (third_part script.now)) (delegation_added (held_in state) (first_part script.now) (second_part script.now) (third_part script.now)) }
+pub fn insert_delegation(
+    state: &mut State,
+    q: Request,
+    script: &[u8],
+) -> Result<Outcome, Refusal>
+    requires { (q ≡ request_of script.now) × (length_of q ≤ length script.now) }
+    ensures { Insertion state.old state.new result (delegation_answer (held_in state.old) (first_part script.now) (second_part script.now) (third_part script.now)) (delegation_added (held_in state.old) (first_part script.now) (second_part script.now) (third_part script.now)) }
 {
     let a = HEADER + q.first;
     let b = a + q.second;
@@ -24,9 +30,13 @@ pub fn insert_delegation(state: State, q: Request, script: &[u8]) -> Inserted
     state.insert_delegation(&script[HEADER..a], &script[a..b], &script[b..c])
 }
 
-pub fn insert_revocation(state: State, q: Request, script: &[u8]) -> Inserted
-    requires { GoodState state × (q ≡ request_of script.now) × (length_of q ≤ length script.now) }
-    ensures { Insertion state result (revocation_answer (held_in state) (first_part script.now) (second_part script.now) (third_part script.now)) (revocation_added (held_in state) (first_part script.now) (second_part script.now) (third_part script.now)) }
+pub fn insert_revocation(
+    state: &mut State,
+    q: Request,
+    script: &[u8],
+) -> Result<Outcome, Refusal>
+    requires { (q ≡ request_of script.now) × (length_of q ≤ length script.now) }
+    ensures { Insertion state.old state.new result (revocation_answer (held_in state.old) (first_part script.now) (second_part script.now) (third_part script.now)) (revocation_added (held_in state.old) (first_part script.now) (second_part script.now) (third_part script.now)) }
 {
     let a = HEADER + q.first;
     let b = a + q.second;
@@ -36,15 +46,14 @@ pub fn insert_revocation(state: State, q: Request, script: &[u8]) -> Inserted
 
 // Questions put to the set, with two rooms.
 pub fn ask_state(
-    state: State,
+    state: &State,
     what: OfState,
     x: &[u8],
     y: &[u8],
     room: &mut [u8],
     other: &mut [u8],
 ) -> Reply
-    requires { GoodState state }
-    ensures { StateAnswers (held_in state) x.now y.now room.old other.old what result room.new other.new }
+    ensures { StateAnswers (held_in state.now) x.now y.now room.old other.old what result room.new other.new }
 {
     match what {
         OfState::Version => {
@@ -66,15 +75,15 @@ pub fn ask_state(
 
 // Questions put to the evaluated set, with two rooms.
 pub fn ask_evaluated(
-    evaluated: Evaluated,
+    evaluated: &Evaluated,
     what: OfEvaluated,
     x: &[u8],
     y: &[u8],
     room: &mut [u8],
     other: &mut [u8],
 ) -> Reply
-    requires { GoodEvaluated evaluated }
-    ensures { EvaluatedAnswers (held_by evaluated) x.now y.now room.old other.old what result room.new other.new }
+    requires { GoodEvaluated evaluated.now }
+    ensures { EvaluatedAnswers (held_by evaluated.now) x.now y.now room.old other.old what result room.new other.new }
 {
     match what {
         OfEvaluated::PositivePower => reply::powered(evaluated.positive_power(x, y)),

@@ -6,7 +6,7 @@ ghost use Rattle.script.specs.Run.{script_limit, Runs, MeasuredAs, RanAs};
 
 use crate::{answer, ask};
 use keyline::refusal::Refusal;
-use tables::answer::is_added;
+use keyline_memory::state::State;
 use wire::operation::{Change, Operation};
 use wire::reply::HEAD;
 use wire::request;
@@ -30,12 +30,12 @@ fn measure(script: &[u8]) -> Result<usize, Refusal>
     Ok(n)
 }
 
-// Copying the set is most of what an insertion takes, so it is stored again only where it was added to.
+// The requests one by one, each reply behind those before it.
 fn perform(script: &[u8], answers: &mut [u8])
     requires { Script script.now (length answers.old) }
     ensures { Runs nothing nothing script.now answers.old answers.new }
 {
-    let mut state = keyline_memory::state::new();
+    let mut state = State::new();
     let mut evaluated = state.evaluate();
     let mut at = 0;
     let mut done = 0;
@@ -49,24 +49,16 @@ fn perform(script: &[u8], answers: &mut [u8])
         match what {
             Operation::Change(asked) => match asked {
                 Change::New => {
-                    state = keyline_memory::state::new();
+                    state = State::new();
                     answer::answer_done(q, &mut answers[from..done]);
                 }
                 Change::InsertDelegation => {
-                    let r = ask::insert_delegation(state, q, &script[start..]);
-                    let told = r.answer;
+                    let told = ask::insert_delegation(&mut state, q, &script[start..]);
                     answer::answer_inserted(told, q, &mut answers[from..done]);
-                    if is_added(told) {
-                        state = r.state;
-                    }
                 }
                 Change::InsertRevocation => {
-                    let r = ask::insert_revocation(state, q, &script[start..]);
-                    let told = r.answer;
+                    let told = ask::insert_revocation(&mut state, q, &script[start..]);
                     answer::answer_inserted(told, q, &mut answers[from..done]);
-                    if is_added(told) {
-                        state = r.state;
-                    }
                 }
             },
             Operation::Evaluate => {
@@ -74,11 +66,11 @@ fn perform(script: &[u8], answers: &mut [u8])
                 answer::answer_done(q, &mut answers[from..done]);
             }
             Operation::OfState(asked) => {
-                answer::answer_state(state, asked, q, &script[start..], &mut answers[from..done]);
+                answer::answer_state(&state, asked, q, &script[start..], &mut answers[from..done]);
             }
             Operation::OfEvaluated(asked) => {
                 answer::answer_evaluated(
-                    evaluated,
+                    &evaluated,
                     asked,
                     q,
                     &script[start..],

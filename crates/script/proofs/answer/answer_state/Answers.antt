@@ -4,7 +4,7 @@ use borrow.Author.Rules.{rules}
 use Rattle.script.proofs.answer.answer_state.Goals as goal
 
 pub state_in-requires : goal.state_in-requires
-state_in-requires c = (c.requires.0, search rules)
+state_in-requires c = search rules
 
 pub returns : goal.returns
-returns c = state_asked c.args.q c.args.script.now c.requires.1.is c.requires.1.other c.state_in.ensures
+returns c = state_asked c.args.q c.args.script.now c.requires.is c.requires.other c.state_in.ensures

@@ -6,5 +6,6 @@ use Rattle.script.proofs.ask.insert_delegation.Goals as goal
 
 pub returns : goal.returns
 returns c =
-    as_asked c.args.q c.args.script.now c.requires.1
-    (λ x y z. Insertion c.args.state c.insert_delegation.result (delegation_answer (held_in c.args.state) x y z) (delegation_added (held_in c.args.state) x y z)) c.insert_delegation.ensures
+    as_asked c.args.q c.args.script.now c.requires.0
+    (λ x y z. Insertion c.args.state.now c.insert_delegation.new.self c.insert_delegation.result (delegation_answer (held_in c.args.state.now) x y z) (delegation_added (held_in c.args.state.now) x y z))
+    (record { answer = c.insert_delegation.ensures.answer; held = c.insert_delegation.ensures.held; kept = c.insert_delegation.ensures.kept })

@@ -6,5 +6,6 @@ use Rattle.script.proofs.ask.insert_revocation.Goals as goal
 
 pub returns : goal.returns
 returns c =
-    as_asked c.args.q c.args.script.now c.requires.1
-    (λ x y z. Insertion c.args.state c.insert_revocation.result (revocation_answer (held_in c.args.state) x y z) (revocation_added (held_in c.args.state) x y z)) c.insert_revocation.ensures
+    as_asked c.args.q c.args.script.now c.requires.0
+    (λ x y z. Insertion c.args.state.now c.insert_revocation.new.self c.insert_revocation.result (revocation_answer (held_in c.args.state.now) x y z) (revocation_added (held_in c.args.state.now) x y z))
+    (record { answer = c.insert_revocation.ensures.answer; held = c.insert_revocation.ensures.held; kept = c.insert_revocation.ensures.kept })

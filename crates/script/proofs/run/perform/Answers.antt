@@ -12,11 +12,8 @@ use Rattle.script.proofs.Measuring.{rest_lent}
 use Rattle.script.proofs.Performing.{begin, bounds, asked, renewed, inserted, worked, asked_state, asked_evaluated, says, ending}
 use Rattle.script.proofs.run.perform.Goals as goal
 
-pub evaluate-evaluated-requires : goal.evaluate-evaluated-requires
-evaluate-evaluated-requires c = c.new-state.ensures.0
-
 pub loop-at-init : goal.loop-at-init
-loop-at-init c = begin c.new-state.ensures.0 c.new-state.ensures.1 c.evaluate-evaluated.ensures.0 c.evaluate-evaluated.ensures.1 c.requires
+loop-at-init c = begin c.new-state.ensures c.evaluate-evaluated.ensures.good c.evaluate-evaluated.ensures.held c.requires
 
 pub slice_bounds-next_request-count : goal.slice_bounds-next_request-count
 slice_bounds-next_request-count c = let w = c.loop-at.invariant.within in omega arith
@@ -72,7 +69,7 @@ loop-at-smaller-in-New c = let l = c.loop-at in let q = c.next_request-q in let 
 pub loop-at-preserved-in-New : goal.loop-at-preserved-in-New
 loop-at-preserved-in-New c =
     let l = c.loop-at in let q = c.next_request-q in let a = asked l.invariant q.ensures in
-    renewed l.invariant q.ensures (c.in-Change.is ∙ ap operation.Change c.in-New.is) c.new-state-in-New.ensures.0 c.new-state-in-New.ensures.1 (omega (arith, c.answers-1.given, a.long)) c.answer_done.ensures
+    renewed l.invariant q.ensures (c.in-Change.is ∙ ap operation.Change c.in-New.is) c.new-state-in-New.ensures (omega (arith, c.answers-1.given, a.long)) c.answer_done.ensures
 
 pub slice_bounds-insert_delegation-count : goal.slice_bounds-insert_delegation-count
 slice_bounds-insert_delegation-count c = let l = c.loop-at in let q = c.next_request-q in let b = bounds l.invariant q.ensures in let u = b.script in let v = b.answers in omega arith
@@ -83,8 +80,8 @@ slice_bounds-insert_delegation-start c = let l = c.loop-at in let q = c.next_req
 pub slice_bounds-insert_delegation-end : goal.slice_bounds-insert_delegation-end
 slice_bounds-insert_delegation-end c = let l = c.loop-at in let q = c.next_request-q in let b = bounds l.invariant q.ensures in let u = b.script in let v = b.answers in omega arith
 
-pub insert_delegation-r-requires : goal.insert_delegation-r-requires
-insert_delegation-r-requires c = let l = c.loop-at in let q = c.next_request-q in (l.invariant.good, q.ensures.is, q.ensures.within)
+pub insert_delegation-told-requires : goal.insert_delegation-told-requires
+insert_delegation-told-requires c = let l = c.loop-at in let q = c.next_request-q in (q.ensures.is, q.ensures.within)
 
 pub slice_bounds-answer_inserted-count : goal.slice_bounds-answer_inserted-count
 slice_bounds-answer_inserted-count c = let l = c.loop-at in let q = c.next_request-q in let b = bounds l.invariant q.ensures in let u = b.script in let v = b.answers in omega arith
@@ -98,21 +95,13 @@ slice_bounds-answer_inserted-end c = let l = c.loop-at in let q = c.next_request
 pub answer_inserted-requires : goal.answer_inserted-requires
 answer_inserted-requires c = let l = c.loop-at in let q = c.next_request-q in let a = asked l.invariant q.ensures in (a.long, a.other)
 
-pub loop-at-smaller-then-is_added : goal.loop-at-smaller-then-is_added
-loop-at-smaller-then-is_added c = let l = c.loop-at in let q = c.next_request-q in let b = bounds l.invariant q.ensures in let u = b.script in let v = b.answers in omega arith
+pub loop-at-smaller-in-InsertDelegation : goal.loop-at-smaller-in-InsertDelegation
+loop-at-smaller-in-InsertDelegation c = let l = c.loop-at in let q = c.next_request-q in let b = bounds l.invariant q.ensures in let u = b.script in let v = b.answers in omega arith
 
-pub loop-at-preserved-then-is_added : goal.loop-at-preserved-then-is_added
-loop-at-preserved-then-is_added c =
-    let l = c.loop-at in let q = c.next_request-q in let a = asked l.invariant q.ensures in let i = c.insert_delegation-r.ensures in
-    inserted l.invariant q.ensures run.insert_delegation i refl (c.in-Change.is ∙ ap operation.Change c.in-InsertDelegation.is) (omega (arith, c.answers-in-InsertDelegation-1.given, a.long)) c.answer_inserted.ensures
-
-pub loop-at-smaller-else-is_added : goal.loop-at-smaller-else-is_added
-loop-at-smaller-else-is_added c = let l = c.loop-at in let q = c.next_request-q in let b = bounds l.invariant q.ensures in let u = b.script in let v = b.answers in omega arith
-
-pub loop-at-preserved-else-is_added : goal.loop-at-preserved-else-is_added
-loop-at-preserved-else-is_added c =
-    let l = c.loop-at in let q = c.next_request-q in let a = asked l.invariant q.ensures in let i = c.insert_delegation-r.ensures in
-    inserted l.invariant q.ensures run.insert_delegation i (sym (i.kept (ap is_added (sym i.answer) ∙ sym c.is_added.ensures ∙ c.if-is_added.false))) (c.in-Change.is ∙ ap operation.Change c.in-InsertDelegation.is) (omega (arith, c.answers-in-InsertDelegation-1.given, a.long)) c.answer_inserted.ensures
+pub loop-at-preserved-in-InsertDelegation : goal.loop-at-preserved-in-InsertDelegation
+loop-at-preserved-in-InsertDelegation c =
+    let l = c.loop-at in let q = c.next_request-q in let a = asked l.invariant q.ensures in let i = c.insert_delegation-told.ensures in
+    inserted l.invariant q.ensures run.insert_delegation i (c.in-Change.is ∙ ap operation.Change c.in-InsertDelegation.is) (omega (arith, c.answers-in-InsertDelegation-1.given, a.long)) c.answer_inserted.ensures
 
 pub slice_bounds-insert_revocation-count : goal.slice_bounds-insert_revocation-count
 slice_bounds-insert_revocation-count c = let l = c.loop-at in let q = c.next_request-q in let b = bounds l.invariant q.ensures in let u = b.script in let v = b.answers in omega arith
@@ -123,8 +112,8 @@ slice_bounds-insert_revocation-start c = let l = c.loop-at in let q = c.next_req
 pub slice_bounds-insert_revocation-end : goal.slice_bounds-insert_revocation-end
 slice_bounds-insert_revocation-end c = let l = c.loop-at in let q = c.next_request-q in let b = bounds l.invariant q.ensures in let u = b.script in let v = b.answers in omega arith
 
-pub insert_revocation-r-requires : goal.insert_revocation-r-requires
-insert_revocation-r-requires c = let l = c.loop-at in let q = c.next_request-q in (l.invariant.good, q.ensures.is, q.ensures.within)
+pub insert_revocation-told-requires : goal.insert_revocation-told-requires
+insert_revocation-told-requires c = let l = c.loop-at in let q = c.next_request-q in (q.ensures.is, q.ensures.within)
 
 pub slice_bounds-answer_inserted-count-in-InsertRevocation : goal.slice_bounds-answer_inserted-count-in-InsertRevocation
 slice_bounds-answer_inserted-count-in-InsertRevocation c = let l = c.loop-at in let q = c.next_request-q in let b = bounds l.invariant q.ensures in let u = b.script in let v = b.answers in omega arith
@@ -138,24 +127,13 @@ slice_bounds-answer_inserted-end-in-InsertRevocation c = let l = c.loop-at in le
 pub answer_inserted-requires-in-InsertRevocation : goal.answer_inserted-requires-in-InsertRevocation
 answer_inserted-requires-in-InsertRevocation c = let l = c.loop-at in let q = c.next_request-q in let a = asked l.invariant q.ensures in (a.long, a.other)
 
-pub loop-at-smaller-then-is_added-2 : goal.loop-at-smaller-then-is_added-2
-loop-at-smaller-then-is_added-2 c = let l = c.loop-at in let q = c.next_request-q in let b = bounds l.invariant q.ensures in let u = b.script in let v = b.answers in omega arith
+pub loop-at-smaller-in-InsertRevocation : goal.loop-at-smaller-in-InsertRevocation
+loop-at-smaller-in-InsertRevocation c = let l = c.loop-at in let q = c.next_request-q in let b = bounds l.invariant q.ensures in let u = b.script in let v = b.answers in omega arith
 
-pub loop-at-preserved-then-is_added-2 : goal.loop-at-preserved-then-is_added-2
-loop-at-preserved-then-is_added-2 c =
-    let l = c.loop-at in let q = c.next_request-q in let a = asked l.invariant q.ensures in let i = c.insert_revocation-r.ensures in
-    inserted l.invariant q.ensures run.insert_revocation i refl (c.in-Change.is ∙ ap operation.Change c.in-InsertRevocation.is) (omega (arith, c.answers-in-InsertRevocation-1.given, a.long)) c.answer_inserted-in-InsertRevocation.ensures
-
-pub loop-at-smaller-else-is_added-2 : goal.loop-at-smaller-else-is_added-2
-loop-at-smaller-else-is_added-2 c = let l = c.loop-at in let q = c.next_request-q in let b = bounds l.invariant q.ensures in let u = b.script in let v = b.answers in omega arith
-
-pub loop-at-preserved-else-is_added-2 : goal.loop-at-preserved-else-is_added-2
-loop-at-preserved-else-is_added-2 c =
-    let l = c.loop-at in let q = c.next_request-q in let a = asked l.invariant q.ensures in let i = c.insert_revocation-r.ensures in
-    inserted l.invariant q.ensures run.insert_revocation i (sym (i.kept (ap is_added (sym i.answer) ∙ sym c.is_added-in-InsertRevocation.ensures ∙ c.if-is_added-2.false))) (c.in-Change.is ∙ ap operation.Change c.in-InsertRevocation.is) (omega (arith, c.answers-in-InsertRevocation-1.given, a.long)) c.answer_inserted-in-InsertRevocation.ensures
-
-pub evaluate-evaluated-requires-in-Evaluate : goal.evaluate-evaluated-requires-in-Evaluate
-evaluate-evaluated-requires-in-Evaluate c = c.loop-at.invariant.good
+pub loop-at-preserved-in-InsertRevocation : goal.loop-at-preserved-in-InsertRevocation
+loop-at-preserved-in-InsertRevocation c =
+    let l = c.loop-at in let q = c.next_request-q in let a = asked l.invariant q.ensures in let i = c.insert_revocation-told.ensures in
+    inserted l.invariant q.ensures run.insert_revocation i (c.in-Change.is ∙ ap operation.Change c.in-InsertRevocation.is) (omega (arith, c.answers-in-InsertRevocation-1.given, a.long)) c.answer_inserted-in-InsertRevocation.ensures
 
 pub slice_bounds-answer_done-count-in-Evaluate : goal.slice_bounds-answer_done-count-in-Evaluate
 slice_bounds-answer_done-count-in-Evaluate c = let l = c.loop-at in let q = c.next_request-q in let b = bounds l.invariant q.ensures in let u = b.script in let v = b.answers in omega arith
@@ -175,7 +153,7 @@ loop-at-smaller-in-Evaluate c = let l = c.loop-at in let q = c.next_request-q in
 pub loop-at-preserved-in-Evaluate : goal.loop-at-preserved-in-Evaluate
 loop-at-preserved-in-Evaluate c =
     let l = c.loop-at in let q = c.next_request-q in let a = asked l.invariant q.ensures in
-    worked l.invariant q.ensures c.in-Evaluate.is c.evaluate-evaluated-in-Evaluate.ensures.0 c.evaluate-evaluated-in-Evaluate.ensures.1 (omega (arith, c.answers-in-Evaluate-1.given, a.long)) c.answer_done-in-Evaluate.ensures
+    worked l.invariant q.ensures c.in-Evaluate.is c.evaluate-evaluated-in-Evaluate.ensures.good c.evaluate-evaluated-in-Evaluate.ensures.held (omega (arith, c.answers-in-Evaluate-1.given, a.long)) c.answer_done-in-Evaluate.ensures
 
 pub slice_bounds-answer_state-count : goal.slice_bounds-answer_state-count
 slice_bounds-answer_state-count c = let l = c.loop-at in let q = c.next_request-q in let b = bounds l.invariant q.ensures in let u = b.script in let v = b.answers in omega arith
@@ -196,7 +174,7 @@ pub slice_bounds-answer_state-end-in-OfState : goal.slice_bounds-answer_state-en
 slice_bounds-answer_state-end-in-OfState c = let l = c.loop-at in let q = c.next_request-q in let b = bounds l.invariant q.ensures in let u = b.script in let v = b.answers in omega arith
 
 pub answer_state-requires : goal.answer_state-requires
-answer_state-requires c = let l = c.loop-at in let q = c.next_request-q in (l.invariant.good, asked l.invariant q.ensures)
+answer_state-requires c = let l = c.loop-at in let q = c.next_request-q in asked l.invariant q.ensures
 
 pub loop-at-smaller-in-OfState : goal.loop-at-smaller-in-OfState
 loop-at-smaller-in-OfState c = let l = c.loop-at in let q = c.next_request-q in let b = bounds l.invariant q.ensures in let u = b.script in let v = b.answers in omega arith
