@@ -40,6 +40,10 @@ pub record StepFacts (t : Bytes) (l m : ℕ) : Type 0 where
   pub some : header_length ≤ l
   pub few : m ≤ largest
 
+-- a step by its two sizes
+pub by_sizes : {t : Bytes} {q : Sizes} → StepOf t (Ok q) → StepOf t (Ok (record { request = q.request; reply = q.reply }))
+by_sizes (whole w b) = whole w b
+
 pub step_facts : {t : Bytes} {l m : ℕ} → StepOf t (Ok (record { request = l; reply = m })) → StepFacts t l m
 step_facts (whole w b) = record { within = w.all; some = omega arith; few = let x = b.room in let y = b.other in omega arith }
 

@@ -18,19 +18,19 @@ pub returns-in-ContainsRevocation : goal.returns-in-ContainsRevocation
 returns-in-ContainsRevocation c = rw (c.in-ContainsRevocation.is, c.contained-in-ContainsRevocation.ensures, c.contains_revocation.ensures) run.contains_revocation
 
 pub returns-in-Delegation : goal.returns-in-Delegation
-returns-in-Delegation c = let e = c.delegation.ensures in rw (c.in-Delegation.is, c.looked.ensures, e.1, e.2) (run.delegation e.0)
+returns-in-Delegation c = let e = c.delegation.ensures in rw (c.in-Delegation.is, c.looked.ensures, e.issuer, e.payload) (run.delegation e.answer)
 
 pub returns-in-Revocation : goal.returns-in-Revocation
-returns-in-Revocation c = let e = c.revocation.ensures in rw (c.in-Revocation.is, c.looked-in-Revocation.ensures, e.1, e.2) (run.revocation e.0)
+returns-in-Revocation c = let e = c.revocation.ensures in rw (c.in-Revocation.is, c.looked-in-Revocation.ensures, e.issuer, e.revoked) (run.revocation e.answer)
 
 pub returns-in-Subjects : goal.returns-in-Subjects
-returns-in-Subjects c = let e = c.subjects.ensures in rw (c.in-Subjects.is, c.listed.ensures, e.1) (run.subjects e.0)
+returns-in-Subjects c = let e = c.subjects.ensures in rw (c.in-Subjects.is, c.listed.ensures, e.out) (run.subjects e.answer)
 
 pub returns-in-RevocationsOf : goal.returns-in-RevocationsOf
-returns-in-RevocationsOf c = let e = c.revocations_of.ensures in rw (c.in-RevocationsOf.is, c.listed-in-RevocationsOf.ensures, e.1) (run.lists_revocations e.0)
+returns-in-RevocationsOf c = let e = c.revocations_of.ensures in rw (c.in-RevocationsOf.is, c.listed-in-RevocationsOf.ensures, e.out) (run.lists_revocations e.answer)
 
 pub returns-in-DelegationsTo : goal.returns-in-DelegationsTo
-returns-in-DelegationsTo c = let e = c.delegations_to.ensures in rw (c.in-DelegationsTo.is, c.listed-in-DelegationsTo.ensures, e.1) (run.lists_delegations e.0)
+returns-in-DelegationsTo c = let e = c.delegations_to.ensures in rw (c.in-DelegationsTo.is, c.listed-in-DelegationsTo.ensures, e.out) (run.lists_delegations e.answer)
 
 pub returns-in-Certificates : goal.returns-in-Certificates
-returns-in-Certificates c = let e = c.certificates.ensures in rw (c.in-Certificates.is, c.both_listed.ensures, e.1) (run.certificates e.0)
+returns-in-Certificates c = let e = c.certificates.ensures in rw (c.in-Certificates.is, c.both_listed.ensures, e.out) (run.certificates e.answer)
