@@ -8,7 +8,6 @@ ghost use Rattle.runs.specs.Table.{small_limit, large_limit, runs, GoodRuns, Roo
 
 use crate::bytes;
 use crate::bytes::RUN_LENGTH;
-use places::wide;
 
 // Tables are of two sizes: so many runs, in so many bytes.
 pub const SMALL_LIMIT: usize = 64;
@@ -31,12 +30,13 @@ fn rank(table: &[u8], limit: usize, n: usize, run: &[u8]) -> usize
     requires { GoodRuns limit table.now n }
     ensures { result ≡ spot run.now (sorted (runs table.now n)) }
 {
+    // No `partition_point`: it asks for a test that can be called on any byte, and this one needs a place of the table.
     let start = RUN_LENGTH * limit;
     let mut low = 0;
     let mut high = n;
     while low < high {
         let mid = low + (high - low) / 2;
-        let i = wide(table[start + mid]);
+        let i = usize::from(table[start + mid]);
         if bytes::less_at(table, i, run) {
             low = mid + 1;
         } else {
@@ -53,7 +53,7 @@ pub fn find(table: &[u8], limit: usize, n: usize, run: &[u8]) -> usize
 {
     let p = rank(table, limit, n, run);
     if p < n {
-        let i = wide(table[RUN_LENGTH * limit + p]);
+        let i = usize::from(table[RUN_LENGTH * limit + p]);
         if bytes::same_at(table, i, run) {
             return i;
         }
@@ -66,11 +66,7 @@ fn shift(bytes: &mut [u8], a: usize, e: usize, v: u8)
     requires { (a ≤ e) × (e < length bytes.old) }
     ensures { bytes.new ≡ put bytes.old a (v ∷ take (e - a) (drop a bytes.old)) }
 {
-    let mut i = e;
-    while a < i {
-        bytes[i] = bytes[i - 1];
-        i -= 1;
-    }
+    bytes.copy_within(a..e, a + 1);
     bytes[a] = v;
 }
 
