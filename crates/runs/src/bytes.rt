@@ -9,7 +9,8 @@ pub const RUN_LENGTH: usize = 32;
 // The run at place i.
 pub fn run_at(bytes: &[u8], i: usize) -> &[u8]
     requires { run_length * i + run_length ≤ length bytes.now }
-    ensures { result.now ≡ run_at bytes.now i }
+    ensures value { result.now ≡ run_at bytes.now i }
+    ensures len { length result.now ≡ run_length }
 {
     let at = RUN_LENGTH * i;
     &bytes[at..at + RUN_LENGTH]

@@ -10,8 +10,5 @@ returns-then-run-ne-RUN_LENGTH c h = absurd (omega arith)
 pub returns-then-same : goal.returns-then-same
 returns-then-same c h = eq_true _ _ (sym c.same.ensures ∙ c.if-same.true)
 
-pub returns-else-same : goal.returns-else-same
-returns-else-same c h = absurd (omega arith)
-
-pub returns-else-i-n : goal.returns-else-i-n
-returns-else-i-n c h = absurd (omega arith)
+pub returns : goal.returns
+returns c h = absurd (omega arith)

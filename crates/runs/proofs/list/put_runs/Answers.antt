@@ -42,9 +42,9 @@ put_run-requires c =
     let w = c.requires.within c.loop-j.j c.loop-j-test.true in
     let e = c.from.ensures in
     let l = c.loop-j.auto.out in
-    (omega arith, rw c.run_at.ensures (length_run c.args.table.now c.from.result (omega arith)))
+    (omega arith, c.run_at.ensures.len)
 
 pub loop-j-preserved : goal.loop-j-preserved
 loop-j-preserved c =
     let l = c.loop-j in
-    rw c.put_run.ensures (one_more c.args.table.now c.args.places.now c.args.k c.args.out.now c.requires l.out c.run_at.result.now c.from.result l.j c.loop-j-test.true c.from.ensures c.run_at.ensures l.invariant)
+    rw c.put_run.ensures (one_more c.args.table.now c.args.places.now c.args.k c.args.out.now c.requires l.out c.run_at.result.now c.from.result l.j c.loop-j-test.true c.from.ensures c.run_at.ensures.value l.invariant)
