@@ -12,6 +12,7 @@ use codec::delegation::Decoded;
 use keyline::limits::KEY_LENGTH;
 use places::{DelegationPlace, KeyPlace, RevocationPlace};
 use runs::table;
+use runs::table::{LARGE_LIMIT, SMALL_LIMIT};
 use store::Store;
 use tables::answer::Answer;
 
@@ -58,10 +59,16 @@ pub fn insert_delegation(mut s: Store, digest: &[u8], issuer: &[u8], payload: &[
         payload,
     );
     if tables::answer::is_added(answer) {
-        let i = table::intern_small(&mut s.keys.table, m, issuer);
-        let a = table::intern_small(&mut s.keys.table, i.count, &payload[0..KEY_LENGTH]);
-        let u = table::intern_small(
+        let i = table::intern(&mut s.keys.table, SMALL_LIMIT, m, issuer);
+        let a = table::intern(
             &mut s.keys.table,
+            SMALL_LIMIT,
+            i.count,
+            &payload[0..KEY_LENGTH],
+        );
+        let u = table::intern(
+            &mut s.keys.table,
+            SMALL_LIMIT,
             a.count,
             &payload[KEY_LENGTH..KEY_LENGTH + KEY_LENGTH],
         );
@@ -74,7 +81,7 @@ pub fn insert_delegation(mut s: Store, digest: &[u8], issuer: &[u8], payload: &[
         let citation = codec::delegation::citation(payload);
         tables::delegations::set_flag(&mut s.delegations.cited, new, citation.len() != 0);
         tables::delegations::put_citation(&mut s.delegations.citation, new, citation);
-        table::push_large(&mut s.delegations.digests, n, digest);
+        table::push(&mut s.delegations.digests, LARGE_LIMIT, n, digest);
         s.delegations.count = n + 1;
         s.version = s.version + 1;
     }
@@ -104,12 +111,12 @@ pub fn insert_revocation(mut s: Store, digest: &[u8], issuer: &[u8], revoked: &[
         revoked,
     );
     if tables::answer::is_added(answer) {
-        let i = table::intern_small(&mut s.keys.table, m, issuer);
+        let i = table::intern(&mut s.keys.table, SMALL_LIMIT, m, issuer);
         s.keys.count = i.count;
         let new = RevocationPlace(n);
         tables::revocations::set_key(&mut s.revocations.issuer, new, KeyPlace(i.place));
         tables::revocations::put_revoked(&mut s.revocations.revoked, new, revoked);
-        table::push_small(&mut s.revocations.digests, n, digest);
+        table::push(&mut s.revocations.digests, SMALL_LIMIT, n, digest);
         s.revocations.count = n + 1;
         s.version = s.version + 1;
     }

@@ -1,11 +1,11 @@
 -- Laws of single runs: equality and order as tests, byte by byte; the run at a place. Rests on specs/Bytes.
-use Prim.Native.Nat.{ℕ, suc, ◌+◌, ◌-◌, ◌*◌, ◌≤◌, ◌<◌}
-use mathlib.Core.Path.{◌≡◌, refl, ◌∙◌}
+use Prim.Native.Nat.{ℕ, suc, ◌+◌, ◌-◌, ◌*◌, ◌≤◌}
+use mathlib.Core.Path.{◌≡◌, refl}
 use mathlib.Core.Bool.{Bool, true, false, cond}
 use mathlib.Core.List.{[], ◌∷◌}
 use native.Mathlib.Omega.{arith}
-use lib.ListN.{length, take, drop, get_or, length-drop}
-use lib.Seq.{length-take-le, take_all, get_or-take, get_or-drop}
+use lib.ListN.{length, take, drop, length-drop}
+use lib.Seq.{length-take-le, take_all}
 use lib.Dec.{eqb}
 use borrow.Author.Tests.{eqb-true, eq-eqb, ne_eqb}
 use Rattle.runs.specs.Bytes.{Bytes, run_length, run_at, eq_bytes}
@@ -49,10 +49,6 @@ module _ (b : Bytes) (i : ℕ) (fits : run_length * i + run_length ≤ length b)
   pub length_run : length (run_at b i) ≡ run_length
   unfolding run_at
   length_run = length-take-le run_length (drop (run_length * i) b) (simp length-drop (omega arith))
-
-pub byte_run : (b : Bytes) (i j : ℕ) → j < run_length → get_or (run_at b i) j 0 ≡ get_or b (run_length * i + j) 0
-unfolding run_at
-byte_run b i j h = get_or-take run_length (drop (run_length * i) b) j 0 h ∙ get_or-drop (run_length * i) b j 0
 
 -- a run, as a part of its table
 pub run_part : (t : Bytes) (i : ℕ) → take (run_length * i + run_length - run_length * i) (drop (run_length * i) t) ≡ run_at t i

@@ -4,7 +4,7 @@ ghost use Rattle.std.specs.Prelude.{◌≡◌, ◌+◌, ◌-◌, ◌<◌, ◌≤
 ghost use Rattle.lent.specs.Bytes.{put};
 ghost use Rattle.runs.specs.Members.{place};
 ghost use Rattle.runs.specs.Sorted.{sorted, spot};
-ghost use Rattle.runs.specs.Table.{small_limit, large_limit, runs, GoodRuns, Room, Pushed, Internable, InternedAs};
+ghost use Rattle.runs.specs.Table.{runs, GoodRuns, Room, Pushed, Internable, InternedAs};
 
 use crate::bytes;
 use crate::bytes::RUN_LENGTH;
@@ -71,7 +71,7 @@ fn shift(bytes: &mut [u8], a: usize, e: usize, v: u8)
 }
 
 // Puts a run that the table has not at place n.
-fn push(table: &mut [u8], limit: usize, n: usize, run: &[u8])
+pub fn push(table: &mut [u8], limit: usize, n: usize, run: &[u8])
     requires { Room limit table.old n run.now }
     ensures { Pushed limit table.old table.new n run.now }
 {
@@ -82,7 +82,7 @@ fn push(table: &mut [u8], limit: usize, n: usize, run: &[u8])
 }
 
 // The place of the run, which is put at place n where the table has it not.
-fn intern(table: &mut [u8], limit: usize, n: usize, run: &[u8]) -> Interned
+pub fn intern(table: &mut [u8], limit: usize, n: usize, run: &[u8]) -> Interned
     requires { Internable limit table.old n run.now }
     ensures { InternedAs limit table.old table.new n run.now result }
 {
@@ -95,26 +95,4 @@ fn intern(table: &mut [u8], limit: usize, n: usize, run: &[u8]) -> Interned
         place: n,
         count: n + 1,
     }
-}
-
-// The same for tables of two sizes.
-pub fn intern_small(table: &mut [u8; SMALL_TABLE], n: usize, run: &[u8]) -> Interned
-    requires { Internable small_limit table.old n run.now }
-    ensures { InternedAs small_limit table.old table.new n run.now result }
-{
-    intern(table, SMALL_LIMIT, n, run)
-}
-
-pub fn push_small(table: &mut [u8; SMALL_TABLE], n: usize, run: &[u8])
-    requires { Room small_limit table.old n run.now }
-    ensures { Pushed small_limit table.old table.new n run.now }
-{
-    push(table, SMALL_LIMIT, n, run);
-}
-
-pub fn push_large(table: &mut [u8; LARGE_TABLE], n: usize, run: &[u8])
-    requires { Room large_limit table.old n run.now }
-    ensures { Pushed large_limit table.old table.new n run.now }
-{
-    push(table, LARGE_LIMIT, n, run);
 }

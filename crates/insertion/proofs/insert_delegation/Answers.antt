@@ -19,7 +19,7 @@ use Rattle.insertion.proofs.AnswerLaws.{DelegationAdded, delegation_added_lem, d
 use Rattle.insertion.proofs.KeyLaws.{KeyRoom, can_intern, rest_room, three_keys, first_stands, second_stands, third_stands}
 use Rattle.insertion.proofs.NextLaws.{DelegationPushed, delegation_next, delegation_good}
 use Rattle.insertion.proofs.InsertionLaws.{is_added_lem, kept_law, added_law, room_for, key_room, cited_long, cited_before, cited_here}
-use Rattle.insertion.proofs.insert_delegation.Goals.{After-intern_small-i, After-is_added, Then-is_added}
+use Rattle.insertion.proofs.insert_delegation.Goals.{After-intern-i, After-is_added, Then-is_added}
 use Rattle.insertion.proofs.insert_delegation.Goals as goal
 
 there : Then-is_added → Seen Delegation
@@ -49,11 +49,11 @@ room c =
     key_room c.args.s.keys.table c.args.s.keys.count (c.args.issuer.now ∷ others c.args.payload.now) c.requires.keys (facts c).keys
 
 -- room for the subject once the issuer is in
-room-2 : (c : After-intern_small-i) → length c.args.issuer.now ≡ key_length → KeyRoom c.args.s.keys.table c.args.s.keys.count (c.args.issuer.now ∷ others c.args.payload.now)
-    → KeyRoom c.intern_small-i.new.table c.intern_small-i.result.count (others c.args.payload.now)
+room-2 : (c : After-intern-i) → length c.args.issuer.now ≡ key_length → KeyRoom c.args.s.keys.table c.args.s.keys.count (c.args.issuer.now ∷ others c.args.payload.now)
+    → KeyRoom c.intern-i.new.table c.intern-i.result.count (others c.args.payload.now)
 room-2 c long r =
     rest_room c.args.s.keys.table c.args.s.keys.count c.requires.keys c.args.issuer.now (others c.args.payload.now) long r
-    c.intern_small-i.new.table c.intern_small-i.result c.intern_small-i.ensures
+    c.intern-i.new.table c.intern-i.result c.intern-i.ensures
 
 answered : (c : After-is_added) → c.delegation_answer-answer.result ≡ delegation_answer (committed c.args.s) c.args.digest.now c.args.issuer.now c.args.payload.now
 answered c =
@@ -64,36 +64,36 @@ pub delegation_answer-answer-requires : goal.delegation_answer-answer-requires
 delegation_answer-answer-requires c =
     (c.requires.keys, λ h. rw c.row-row.ensures (row_fits c.args.s c.requires c.find-at.result h))
 
-pub intern_small-i-requires : goal.intern_small-i-requires
-intern_small-i-requires c =
-    can_intern c.args.s.keys.table c.args.s.keys.count c.requires.keys c.args.issuer.now (others c.args.payload.now) (facts (goal.at.intern_small-i-requires c).Then-is_added).issuer (room (goal.at.intern_small-i-requires c).Then-is_added)
+pub intern-i-requires : goal.intern-i-requires
+intern-i-requires c =
+    can_intern c.args.s.keys.table c.args.s.keys.count c.requires.keys c.args.issuer.now (others c.args.payload.now) (facts (goal.at.intern-i-requires c).Then-is_added).issuer (room (goal.at.intern-i-requires c).Then-is_added)
 
-pub slice_bounds-intern_small-end : goal.slice_bounds-intern_small-end
-slice_bounds-intern_small-end c = let q = (part (goal.at.slice_bounds-intern_small-end c).Then-is_added).long in omega arith
+pub slice_bounds-intern-end-then-is_added-2 : goal.slice_bounds-intern-end-then-is_added-2
+slice_bounds-intern-end-then-is_added-2 c = let q = (part (goal.at.slice_bounds-intern-end-then-is_added-2 c).Then-is_added).long in omega arith
 
-pub intern_small-a-requires : goal.intern_small-a-requires
+pub intern-a-requires : goal.intern-a-requires
 unfolding others
-intern_small-a-requires c =
+intern-a-requires c =
     let p = c.args.payload.now in
-    let i = c.intern_small-i in
-    can_intern i.new.table i.result.count i.ensures.good (take key_length p) (take key_length (drop key_length p) ∷ []) (part (goal.at.intern_small-a-requires c).Then-is_added).audience (room-2 (goal.at.intern_small-a-requires c).After-intern_small-i (facts (goal.at.intern_small-a-requires c).Then-is_added).issuer (room (goal.at.intern_small-a-requires c).Then-is_added))
+    let i = c.intern-i in
+    can_intern i.new.table i.result.count i.ensures.good (take key_length p) (take key_length (drop key_length p) ∷ []) (part (goal.at.intern-a-requires c).Then-is_added).audience (room-2 (goal.at.intern-a-requires c).After-intern-i (facts (goal.at.intern-a-requires c).Then-is_added).issuer (room (goal.at.intern-a-requires c).Then-is_added))
 
-pub slice_bounds-intern_small-end-then-is_added : goal.slice_bounds-intern_small-end-then-is_added
-slice_bounds-intern_small-end-then-is_added c = let q = (part (goal.at.slice_bounds-intern_small-end-then-is_added c).Then-is_added).long in omega arith
+pub slice_bounds-intern-end-then-is_added-4 : goal.slice_bounds-intern-end-then-is_added-4
+slice_bounds-intern-end-then-is_added-4 c = let q = (part (goal.at.slice_bounds-intern-end-then-is_added-4 c).Then-is_added).long in omega arith
 
-pub intern_small-u-requires : goal.intern_small-u-requires
+pub intern-u-requires : goal.intern-u-requires
 unfolding others
-intern_small-u-requires c =
+intern-u-requires c =
     let p = c.args.payload.now in
-    let i = c.intern_small-i in
-    let a = c.intern_small-a in
-    can_intern a.new.table a.result.count a.ensures.good (take key_length (drop key_length p)) [] (part (goal.at.intern_small-u-requires c).Then-is_added).subject
-    (rest_room i.new.table i.result.count i.ensures.good (take key_length p) (take key_length (drop key_length p) ∷ []) (part (goal.at.intern_small-u-requires c).Then-is_added).audience (room-2 (goal.at.intern_small-u-requires c).After-intern_small-i (facts (goal.at.intern_small-u-requires c).Then-is_added).issuer (room (goal.at.intern_small-u-requires c).Then-is_added)) a.new.table a.result a.ensures)
+    let i = c.intern-i in
+    let a = c.intern-a in
+    can_intern a.new.table a.result.count a.ensures.good (take key_length (drop key_length p)) [] (part (goal.at.intern-u-requires c).Then-is_added).subject
+    (rest_room i.new.table i.result.count i.ensures.good (take key_length p) (take key_length (drop key_length p) ∷ []) (part (goal.at.intern-u-requires c).Then-is_added).audience (room-2 (goal.at.intern-u-requires c).After-intern-i (facts (goal.at.intern-u-requires c).Then-is_added).issuer (room (goal.at.intern-u-requires c).Then-is_added)) a.new.table a.result a.ensures)
 
 pub set_key-requires : goal.set_key-requires
 unfolding there
 set_key-requires c =
-    let i = c.intern_small-i.ensures in
+    let i = c.intern-i.ensures in
     let a = i.within in
     let b = i.good.room in
     (c.requires.delegations.issuer.long, (facts (goal.at.set_key-requires c).Then-is_added).room, omega arith)
@@ -101,7 +101,7 @@ set_key-requires c =
 pub set_key-requires-then-is_added : goal.set_key-requires-then-is_added
 unfolding there
 set_key-requires-then-is_added c =
-    let i = c.intern_small-a.ensures in
+    let i = c.intern-a.ensures in
     let a = i.within in
     let b = i.good.room in
     (c.requires.delegations.audience.long, (facts (goal.at.set_key-requires-then-is_added c).Then-is_added).room, omega arith)
@@ -109,7 +109,7 @@ set_key-requires-then-is_added c =
 pub set_key-requires-then-is_added-2 : goal.set_key-requires-then-is_added-2
 unfolding there
 set_key-requires-then-is_added-2 c =
-    let i = c.intern_small-u.ensures in
+    let i = c.intern-u.ensures in
     let a = i.within in
     let b = i.good.room in
     (c.requires.delegations.subject.long, (facts (goal.at.set_key-requires-then-is_added-2 c).Then-is_added).room, omega arith)
@@ -126,10 +126,10 @@ pub put_citation-requires : goal.put_citation-requires
 unfolding there
 put_citation-requires c = (c.requires.delegations.citation, (facts (goal.at.put_citation-requires c).Then-is_added).room)
 
-pub push_large-requires : goal.push_large-requires
+pub push-requires : goal.push-requires
 unfolding there
-push_large-requires c =
-    let f = facts (goal.at.push_large-requires c).Then-is_added in
+push-requires c =
+    let f = facts (goal.at.push-requires c).Then-is_added in
     room_for delegation_limit c.args.s.delegations.digests c.args.s.delegations.count c.args.digest.now c.find-at.result.0 c.requires.delegations.digests (omega arith) f.room f.digest c.find-at.ensures f.new
 
 pub overflow_add-s : goal.overflow_add-s
@@ -152,9 +152,9 @@ returns-then-is_added c =
     let p = c.args.payload.now in
     let f = facts (goal.at.returns-then-is_added c).Then-is_added in
     let n = st.delegations.count in
-    let k1 = c.intern_small-i in
-    let k2 = c.intern_small-a in
-    let k3 = c.intern_small-u in
+    let k1 = c.intern-i in
+    let k2 = c.intern-a in
+    let k3 = c.intern-u in
     let x = c.citation-citation.result.now in
     let col = st.delegations.citation in
     let l = c.requires.delegations.citation in
@@ -164,7 +164,7 @@ returns-then-is_added c =
     let u : Store = record {
       keys = record { table = k3.new.table; count = k3.result.count };
       delegations = record {
-        digests = c.push_large.new.table;
+        digests = c.push.new.table;
         count = n + 1;
         issuer = c.set_key.new.column;
         audience = c.set_key-then-is_added.new.column;
@@ -178,7 +178,7 @@ returns-then-is_added c =
     } in
     let h : DelegationPushed st u g = record {
       keys = three_keys st.keys.table k1.new.table k2.new.table k3.new.table st.keys.count i a b k1.result k2.result k3.result k1.ensures k2.ensures k3.ensures;
-      digests = c.push_large.ensures;
+      digests = c.push.ensures;
       room = f.room;
       count = refl;
       issuer = record {

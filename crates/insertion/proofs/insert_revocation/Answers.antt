@@ -43,14 +43,14 @@ pub revocation_answer-answer-requires : goal.revocation_answer-answer-requires
 revocation_answer-answer-requires c =
     (c.requires.keys, λ h. revocation_fits c.args.s c.requires c.find-at.result c.key_at-by.result (rw c.key_at-by.ensures) h)
 
-pub intern_small-i-requires : goal.intern_small-i-requires
-intern_small-i-requires c =
-    can_intern c.args.s.keys.table c.args.s.keys.count c.requires.keys c.args.issuer.now [] (facts (goal.at.intern_small-i-requires c).Then-is_added).issuer (room (goal.at.intern_small-i-requires c).Then-is_added)
+pub intern-i-requires : goal.intern-i-requires
+intern-i-requires c =
+    can_intern c.args.s.keys.table c.args.s.keys.count c.requires.keys c.args.issuer.now [] (facts (goal.at.intern-i-requires c).Then-is_added).issuer (room (goal.at.intern-i-requires c).Then-is_added)
 
 pub set_key-requires : goal.set_key-requires
 unfolding there
 set_key-requires c =
-    let i = c.intern_small-i.ensures in
+    let i = c.intern-i.ensures in
     let a = i.within in
     let b = i.good.room in
     (c.requires.revocations.issuer.long, (facts (goal.at.set_key-requires c).Then-is_added).room, omega arith)
@@ -59,10 +59,10 @@ pub put_revoked-requires : goal.put_revoked-requires
 unfolding there
 put_revoked-requires c = (c.requires.revocations.revoked, (facts (goal.at.put_revoked-requires c).Then-is_added).room, (facts (goal.at.put_revoked-requires c).Then-is_added).revoked)
 
-pub push_small-requires : goal.push_small-requires
+pub push-requires : goal.push-requires
 unfolding there
-push_small-requires c =
-    let f = facts (goal.at.push_small-requires c).Then-is_added in
+push-requires c =
+    let f = facts (goal.at.push-requires c).Then-is_added in
     room_for revocation_limit c.args.s.revocations.digests c.args.s.revocations.count c.args.digest.now c.find-at.result.0 c.requires.revocations.digests (omega arith) f.room f.digest c.find-at.ensures f.new
 
 pub overflow_add-s : goal.overflow_add-s
@@ -87,17 +87,17 @@ returns-then-is_added c =
     let n = st.revocations.count in
     let l = c.requires.revocations.revoked in
     let u : Store = record {
-      keys = record { table = c.intern_small-i.new.table; count = c.intern_small-i.result.count };
+      keys = record { table = c.intern-i.new.table; count = c.intern-i.result.count };
       delegations = st.delegations;
-      revocations = record { digests = c.push_small.new.table; count = n + 1; issuer = c.set_key.new.column; revoked = c.put_revoked.new.column };
+      revocations = record { digests = c.push.new.table; count = n + 1; issuer = c.set_key.new.column; revoked = c.put_revoked.new.column };
       version = st.version + 1;
     } in
     let h : RevocationPushed st u (revocation_from d i x) = record {
-      keys = one_key st.keys.table c.intern_small-i.new.table st.keys.count i c.intern_small-i.result c.intern_small-i.ensures;
-      digests = c.push_small.ensures;
+      keys = one_key st.keys.table c.intern-i.new.table st.keys.count i c.intern-i.result c.intern-i.ensures;
+      digests = c.push.ensures;
       room = f.room;
       count = refl;
-      issuer = record { place = c.intern_small-i.result.place; is_set = c.set_key.ensures; stands = stands st.keys.table c.intern_small-i.new.table st.keys.count i c.intern_small-i.result c.intern_small-i.ensures };
+      issuer = record { place = c.intern-i.result.place; is_set = c.set_key.ensures; stands = stands st.keys.table c.intern-i.new.table st.keys.count i c.intern-i.result c.intern-i.ensures };
       long = rw c.put_revoked.ensures (column_long revocation_limit n st.revocations.revoked l f.room x f.revoked);
       before = λ j p. rw c.put_revoked.ensures (column_before revocation_limit n st.revocations.revoked l f.room x f.revoked j p);
       revoked = rw c.put_revoked.ensures (column_here revocation_limit n st.revocations.revoked l f.room x f.revoked);
