@@ -5,7 +5,6 @@ pub mod Settled
 pub mod Places
 pub mod OverBytes
 pub mod Counting
-pub mod Filling
 pub mod Members
 pub mod Closures
 pub mod Cases

@@ -8,7 +8,7 @@ ghost use Rattle.answers.specs.Facts.{FactsOf, Targets};
 
 use coverage::Facts;
 use keyline::limits::REVOCATION_LIMIT;
-use runs::bytes::RUN_LENGTH;
+use runs::bytes;
 use store::Store;
 
 // The place of the delegation that each of the first m revocations names; n where no held one has the digest.
@@ -16,13 +16,10 @@ fn targets<'a>(digests: &'a [u8], n: usize, revoked: &'a [u8], m: usize) -> [u8;
     requires { GoodRuns delegation_limit digests.now n × (m ≤ revocation_limit) × (length revoked.now ≡ run_length * revocation_limit) }
     ensures { (length result ≡ revocation_limit) × Targets digests.now n revoked.now m result }
 {
-    let mut target = [0u8; REVOCATION_LIMIT];
-    let mut j = 0;
-    while j < m {
-        let a = RUN_LENGTH * j;
-        let at = tables::delegations::find(digests, n, &revoked[a..a + RUN_LENGTH]);
+    let mut target = [0; REVOCATION_LIMIT];
+    for j in 0..m {
+        let at = tables::delegations::find(digests, n, bytes::run_at(revoked, j));
         target[j] = at.0 as u8;
-        j += 1;
     }
     target
 }

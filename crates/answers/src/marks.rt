@@ -4,16 +4,12 @@ ghost use Rattle.keyline.specs.Limits.{key_limit, delegation_limit, revocation_l
 ghost use Rattle.answers.specs.Marks.{isMember, MemberWord, MemberMarks, Letters, letter_at, InNodes, Naming};
 
 use keyline::limits::{DELEGATION_LIMIT, KEY_LIMIT, REVOCATION_LIMIT};
-use places::wide;
 
 // Whether the key at place x, whose byte of the subject's row is given, is a member of the subject at place s.
 fn is_member(byte: u8, x: usize, s: usize) -> bool
     ensures { result ≡ isMember byte x s }
 {
-    if byte == 0 {
-        return false;
-    }
-    x != s
+    byte != 0 && x != s
 }
 
 // The members among the first n keys, as a set.
@@ -22,12 +18,9 @@ pub fn member_word(row: &[u8], n: usize, s: usize) -> u64
     ensures { MemberWord row.now n s result }
 {
     let mut w = 0;
-    let mut x = 0;
-    while x < n {
-        let k = x;
-        x += 1;
-        if is_member(row[k], k, s) {
-            w = keyset::with(w, k);
+    for x in 0..n {
+        if is_member(row[x], x, s) {
+            w = keyset::with(w, x);
         }
     }
     w
@@ -39,10 +32,8 @@ pub fn member_marks(row: &[u8], n: usize, s: usize) -> [bool; KEY_LIMIT]
     ensures { MemberMarks row.now n s result }
 {
     let mut on = [false; KEY_LIMIT];
-    let mut x = 0;
-    while x < n {
+    for x in 0..n {
         on[x] = is_member(row[x], x, s);
-        x += 1;
     }
     on
 }
@@ -51,16 +42,12 @@ pub fn member_marks(row: &[u8], n: usize, s: usize) -> [bool; KEY_LIMIT]
 fn letter(byte: u8) -> u8
     ensures { result ≡ letter_at byte }
 {
-    if byte <= 1 {
-        return b'L';
+    match byte {
+        0 | 1 => b'L',
+        2 => b'R',
+        3 => b'E',
+        _ => b'A',
     }
-    if byte == 2 {
-        return b'R';
-    }
-    if byte == 3 {
-        return b'E';
-    }
-    b'A'
 }
 
 // A row's letters.
@@ -68,11 +55,9 @@ pub fn letters(row: &[u8]) -> [u8; KEY_LIMIT]
     requires { length row.now ≡ key_limit }
     ensures { Letters row.now result }
 {
-    let mut out = [0u8; KEY_LIMIT];
-    let mut x = 0;
-    while x < KEY_LIMIT {
+    let mut out = [0; KEY_LIMIT];
+    for x in 0..KEY_LIMIT {
         out[x] = letter(row[x]);
-        x += 1;
     }
     out
 }
@@ -83,22 +68,10 @@ pub fn in_nodes(subject: &[u8], n: usize, nodes: u64) -> [bool; DELEGATION_LIMIT
     ensures { InNodes subject.now n nodes result }
 {
     let mut on = [false; DELEGATION_LIMIT];
-    let mut d = 0;
-    while d < n {
-        on[d] = keyset::has(nodes, wide(subject[d]));
-        d += 1;
+    for d in 0..n {
+        on[d] = keyset::has(nodes, usize::from(subject[d]));
     }
     on
-}
-
-fn mark_at(on: &[bool], n: usize, d: usize) -> bool
-    requires { n ≤ length on.now }
-    ensures { result ≡ cond (ltb d n) (get_or on.now d false) false }
-{
-    if d < n {
-        return on[d];
-    }
-    false
 }
 
 // The first m revocations whose target is one of the marked delegations.
@@ -107,10 +80,9 @@ pub fn naming<'a>(target: &'a [u8], m: usize, on: &'a [bool], n: usize) -> [bool
     ensures { Naming target.now m on.now n result }
 {
     let mut marks = [false; REVOCATION_LIMIT];
-    let mut j = 0;
-    while j < m {
-        marks[j] = mark_at(on, n, wide(target[j]));
-        j += 1;
+    for j in 0..m {
+        let d = usize::from(target[j]);
+        marks[j] = d < n && on[d];
     }
     marks
 }

@@ -11,6 +11,7 @@ use codec::delegation::Decoded;
 use keyline::limits::KEY_LENGTH;
 use places::{DelegationPlace, KeyPlace, RevocationPlace};
 use runs::table;
+use runs::table::{LARGE_LIMIT, SMALL_LIMIT};
 use store::Store;
 use keyline::refusal::Refusal;
 use tables::answer::{Outcome, is_added};
@@ -60,10 +61,16 @@ pub fn insert_delegation(
     if !is_added(answer) {
         return answer;
     }
-    let i = table::intern_small(&mut store.keys.table, m, issuer);
-    let a = table::intern_small(&mut store.keys.table, i.count, &payload[0..KEY_LENGTH]);
-    let u = table::intern_small(
+    let i = table::intern(&mut store.keys.table, SMALL_LIMIT, m, issuer);
+    let a = table::intern(
         &mut store.keys.table,
+        SMALL_LIMIT,
+        i.count,
+        &payload[0..KEY_LENGTH],
+    );
+    let u = table::intern(
+        &mut store.keys.table,
+        SMALL_LIMIT,
         a.count,
         &payload[KEY_LENGTH..KEY_LENGTH + KEY_LENGTH],
     );
@@ -76,7 +83,7 @@ pub fn insert_delegation(
     let citation = codec::delegation::citation(payload);
     tables::delegations::set_flag(&mut store.delegations.cited, new, citation.len() != 0);
     tables::delegations::put_citation(&mut store.delegations.citation, new, citation);
-    table::push_large(&mut store.delegations.digests, n, digest);
+    table::push(&mut store.delegations.digests, LARGE_LIMIT, n, digest);
     store.delegations.count = n + 1;
     store.version += 1;
     answer
@@ -110,12 +117,12 @@ pub fn insert_revocation(
     if !is_added(answer) {
         return answer;
     }
-    let i = table::intern_small(&mut store.keys.table, m, issuer);
+    let i = table::intern(&mut store.keys.table, SMALL_LIMIT, m, issuer);
     store.keys.count = i.count;
     let new = RevocationPlace(n);
     tables::revocations::set_key(&mut store.revocations.issuer, new, KeyPlace(i.place));
     tables::revocations::put_revoked(&mut store.revocations.revoked, new, revoked);
-    table::push_small(&mut store.revocations.digests, n, digest);
+    table::push(&mut store.revocations.digests, SMALL_LIMIT, n, digest);
     store.revocations.count = n + 1;
     store.version += 1;
     answer

@@ -6,10 +6,8 @@ ghost use Rattle.lent.specs.Bytes.{put, put_within};
 pub fn put_at(out: &mut [u8], at: usize, src: &[u8])
     ensures { out.new ≡ put_within out.old at src.now }
 {
-    if src.len() <= out.len() {
-        if at <= out.len() - src.len() {
-            copy_at(out, at, src);
-        }
+    if src.len() <= out.len() && at <= out.len() - src.len() {
+        copy_at(out, at, src);
     }
 }
 
@@ -18,9 +16,5 @@ pub fn copy_at(out: &mut [u8], at: usize, src: &[u8])
     requires { at + length src.now ≤ length out.old }
     ensures { out.new ≡ put out.old at src.now }
 {
-    let mut j = 0;
-    while j < src.len() {
-        out[at + j] = src[j];
-        j += 1;
-    }
+    out[at..at + src.len()].copy_from_slice(src);
 }

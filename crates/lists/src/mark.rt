@@ -5,7 +5,7 @@ ghost use Rattle.keyline.specs.Limits.{key_limit, delegation_limit, revocation_l
 ghost use Rattle.lists.specs.Marks.{among};
 
 use keyline::limits::{DELEGATION_LIMIT, KEY_LIMIT, REVOCATION_LIMIT};
-use places::{KeyPlace, wide};
+use places::KeyPlace;
 use runs::bytes;
 
 pub fn all() -> [bool; DELEGATION_LIMIT]
@@ -20,11 +20,8 @@ pub fn subjects(subject: &[u8], n: usize) -> [bool; KEY_LIMIT]
     ensures { (length result ≡ key_limit) × ((k : ℕ) → get_or result k false ≡ among k (take n subject.now)) }
 {
     let mut on = [false; KEY_LIMIT];
-    let mut i = 0;
-    while i < n {
-        let k = wide(subject[i]);
-        on[k] = true;
-        i += 1;
+    for &key in &subject[..n] {
+        on[usize::from(key)] = true;
     }
     on
 }
@@ -35,21 +32,10 @@ pub fn naming(revoked: &[u8], n: usize, target: &[u8]) -> [bool; REVOCATION_LIMI
     ensures { (length result ≡ revocation_limit) × ((i : ℕ) → i < n → get_or result i false ≡ eq_bytes (run_at revoked.now i) target.now) }
 {
     let mut on = [false; REVOCATION_LIMIT];
-    let mut i = 0;
-    while i < n {
+    for i in 0..n {
         on[i] = bytes::same_at(revoked, i, target);
-        i += 1;
     }
     on
-}
-
-fn is_between(s: usize, a: usize, subject: KeyPlace, audience: KeyPlace) -> bool
-    ensures { result ≡ cond (eqb s subject.0) (eqb a audience.0) false }
-{
-    if s == subject.0 {
-        return a == audience.0;
-    }
-    false
 }
 
 // The n delegations whose subject and audience stand at these places.
@@ -64,12 +50,8 @@ pub fn between<'a>(
     ensures { (length result ≡ delegation_limit) × ((i : ℕ) → i < n → get_or result i false ≡ cond (eqb (get_or subjects.now i 0) subject.0) (eqb (get_or audiences.now i 0) audience.0) false) }
 {
     let mut on = [false; DELEGATION_LIMIT];
-    let mut i = 0;
-    while i < n {
-        let s = wide(subjects[i]);
-        let a = wide(audiences[i]);
-        on[i] = is_between(s, a, subject, audience);
-        i += 1;
+    for i in 0..n {
+        on[i] = usize::from(subjects[i]) == subject.0 && usize::from(audiences[i]) == audience.0;
     }
     on
 }

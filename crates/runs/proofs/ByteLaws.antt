@@ -1,14 +1,14 @@
 -- Laws of single runs: equality and order as tests, byte by byte; the run at a place. Rests on specs/Bytes.
-use Prim.Native.Nat.{ℕ, suc, ◌+◌, ◌-◌, ◌*◌, ◌≤◌, ◌<◌}
-use mathlib.Core.Path.{◌≡◌, refl, ◌∙◌}
+use Prim.Native.Nat.{ℕ, suc, ◌+◌, ◌-◌, ◌*◌, ◌≤◌}
+use mathlib.Core.Path.{◌≡◌, refl}
 use mathlib.Core.Bool.{Bool, true, false, cond}
 use mathlib.Core.List.{[], ◌∷◌}
 use native.Mathlib.Omega.{arith}
-use lib.ListN.{length, take, drop, get_or, length-drop, drop_of_length-le}
-use lib.Seq.{drop-cons, length-take-le, take_all, get_or-take, get_or-drop}
-use lib.Dec.{eqb, ltb}
-use borrow.Author.Tests.{eqb-true, eq-eqb, ne_eqb, ltb-true, ltb-false}
-use Rattle.runs.specs.Bytes.{Bytes, run_length, run_at, eq_bytes, lt_bytes}
+use lib.ListN.{length, take, drop, length-drop}
+use lib.Seq.{length-take-le, take_all}
+use lib.Dec.{eqb}
+use borrow.Author.Tests.{eqb-true, eq-eqb, ne_eqb}
+use Rattle.runs.specs.Bytes.{Bytes, run_length, run_at, eq_bytes}
 
 -- ---- equality
 eq_go : (x y : ℕ) (a b : Bytes) (t : Bool) → eqb x y ≡ t → (eq_bytes a b ≡ true → a ≡ b) → cond t (eq_bytes a b) false ≡ true → x ∷ a ≡ y ∷ b
@@ -44,43 +44,18 @@ unfolding eq_bytes
 eq_nil [] = refl
 eq_nil (x ∷ c) = ne_eqb (suc (length c)) 0 (λ e. omega arith)
 
--- ---- order, from byte i on
-module _ (a b : Bytes) (i : ℕ) where
-  pub lt_step : i < length a → i < length b
-      → lt_bytes (drop i a) (drop i b) ≡ cond (ltb (get_or a i 0) (get_or b i 0)) true (cond (eqb (get_or a i 0) (get_or b i 0)) (lt_bytes (drop (suc i) a) (drop (suc i) b)) false)
-  unfolding lt_bytes
-  lt_step p q = rw (drop-cons a i 0 p, drop-cons b i 0 q)
-
-  -- b ends first
-  pub lt_short : i < length a → length b ≤ i → lt_bytes (drop i a) (drop i b) ≡ false
-  unfolding lt_bytes
-  lt_short p q = rw (drop-cons a i 0 p, drop_of_length-le b {i = i} q)
-
-  -- a ends first, or both do
-  pub lt_end : length a ≤ i → lt_bytes (drop i a) (drop i b) ≡ ltb i (length b)
-  unfolding lt_bytes
-  lt_end p = rw (drop_of_length-le a {i = i} p) (go (ltb i (length b)) refl)
-    where
-      go : (t : Bool) → ltb i (length b) ≡ t → lt_bytes [] (drop i b) ≡ t
-      go true e = rw (drop-cons b i 0 (ltb-true i (length b) e))
-      go false e = rw (drop_of_length-le b {i = i} (ltb-false i (length b) e))
-
 -- ---- the run at a place
 module _ (b : Bytes) (i : ℕ) (fits : run_length * i + run_length ≤ length b) where
   pub length_run : length (run_at b i) ≡ run_length
   unfolding run_at
   length_run = length-take-le run_length (drop (run_length * i) b) (simp length-drop (omega arith))
 
-pub byte_run : (b : Bytes) (i j : ℕ) → j < run_length → get_or (run_at b i) j 0 ≡ get_or b (run_length * i + j) 0
-unfolding run_at
-byte_run b i j h = get_or-take run_length (drop (run_length * i) b) j 0 h ∙ get_or-drop (run_length * i) b j 0
-
--- a run by itself
 -- a run, as a part of its table
 pub run_part : (t : Bytes) (i : ℕ) → take (run_length * i + run_length - run_length * i) (drop (run_length * i) t) ≡ run_at t i
 unfolding run_at
 run_part t i = let e : run_length * i + run_length - run_length * i ≡ run_length = omega arith in rw e
 
+-- a run by itself
 pub run_whole : (b : Bytes) → length b ≡ run_length → run_at b 0 ≡ b
 unfolding run_at
 run_whole b h = take_all run_length b (omega arith)

@@ -1,5 +1,6 @@
 pub mod BoolLaws
 pub mod ByteLaws
+pub mod TestLaws
 pub mod MemberLaws
 pub mod FreshLaws
 pub mod AscentLaws

@@ -6,8 +6,8 @@ use mathlib.Core.List.{List, [], ◌∷◌, ◌++◌, map, map-append, append_as
 use native.Mathlib.Omega.{arith}
 use native.Mathlib.Numerals.{add-one}
 use native.Mathlib.Nat.{le_of_suc-le-suc, not-suc-le-zero}
-use lib.ListN.{length, take, drop, get_or, set, length-append, length-take, length-drop, take-append-drop, get_or-append}
-use lib.Seq.{length-take-le, take-add, take_at, drop_at, take-append-le, drop-append-le, drop-drop, take-take, get_or-take, get_or-drop, get_or_at, take-suc, drop-cons, set_at}
+use lib.ListN.{length, take, drop, get_or, set, length-append, length-take, length-drop, get_or-append}
+use lib.Seq.{length-take-le, take-add, take_at, drop_at, take-append-le, drop-append-le, drop-drop, take-take, get_or-take, get_or-drop, get_or_at, take-suc, set_at}
 use lib.Dec.{eqb}
 use borrow.Author.Tests.{eqb-true, eqb-false}
 use Rattle.lent.specs.Bytes.{put}
@@ -87,9 +87,6 @@ pub put_is : (t : Bytes) (at : ℕ) (x : Bytes) → put t at x ≡ take at t ++ 
 unfolding put
 put_is t at x = append_assoc (take at t) x (drop (at + length x) t)
 
-pub put_none : (t : Bytes) (at : ℕ) → put t at [] ≡ t
-put_none t at = put_is t at [] ∙ (let e : at + 0 ≡ at = omega arith in rw e (take-append-drop at t))
-
 module _ (t : Bytes) (at : ℕ) (x : Bytes) (fits : at + length x ≤ length t) where
   front_long : length (take at t) ≡ at
   front_long = length-take-le at t (omega arith)
@@ -113,11 +110,7 @@ module _ (t : Bytes) (at : ℕ) (x : Bytes) (fits : at + length x ≤ length t) 
       ap (λ (j : ℕ). drop j (put t at x)) (sym e) ∙ sym (drop-drop m (at + length x) (put t at x))
       ∙ ap (λ (l : Bytes). drop m l) drop_seam ∙ drop-drop m (at + length x) t ∙ ap (λ (j : ℕ). drop j t) e
 
-  -- a byte before it stays
-  pub byte_before : (j : ℕ) → j < at → get_or (put t at x) j 0 ≡ get_or t j 0
-  byte_before j h = sym (get_or-take at (put t at x) j 0 h) ∙ ap (λ (l : Bytes). get_or l j 0) (take_put at (omega arith)) ∙ get_or-take at t j 0 h
-
-  -- and so does a run
+  -- a run before it stays
   pub run_before : (i : ℕ) → run_length * i + run_length ≤ at → run_at (put t at x) i ≡ run_at t i
   unfolding run_at
   run_before i h =
@@ -143,14 +136,6 @@ set_put b y i v h =
     let e : put b (i + 1) y ≡ take i b ++ (x ∷ q) = put_is b (i + 1) y ∙ rw a (append_assoc (take i b) (x ∷ []) q) in
     let f : i + suc (length y) ≡ i + 1 + length y = omega arith in
     ap (λ (l : Bytes). set l i v) e ∙ set_at (take i b) x q v i (length-take-le i b (omega arith)) ∙ sym (put_is b i (v ∷ y) ∙ rw f)
-
--- the bytes from i on, one more in front
-pub part_more : (b : Bytes) (i e : ℕ) → 0 < i → i ≤ e → e < length b → get_or b (i - 1) 0 ∷ take (e - i) (drop i b) ≡ take (e - (i - 1)) (drop (i - 1) b)
-part_more b i e p q r =
-    let a : e - (i - 1) ≡ suc (e - i) = omega arith in
-    let c : suc (i - 1) ≡ i = omega arith in
-    let d : drop (i - 1) b ≡ get_or b (i - 1) 0 ∷ drop i b = drop-cons b (i - 1) 0 (omega arith) ∙ rw c in
-    rw (a, d)
 
 -- ---- the order behind the room for runs
 module _ (limit : ℕ) (t : Bytes) (n : ℕ) (long : length t ≡ run_length * limit + limit) (room : n ≤ limit) where

@@ -6,23 +6,22 @@ ghost use Rattle.runs.specs.Bytes.{run_length, run_at, eq_bytes, lt_bytes};
 // The length of a key, and of a digest.
 pub const RUN_LENGTH: usize = 32;
 
+// The run at place i.
+pub fn run_at(bytes: &[u8], i: usize) -> &[u8]
+    requires { run_length * i + run_length ≤ length bytes.now }
+    ensures value { result.now ≡ run_at bytes.now i }
+    ensures len { length result.now ≡ run_length }
+{
+    let at = RUN_LENGTH * i;
+    &bytes[at..at + RUN_LENGTH]
+}
+
 // Whether the run at place i is the one given.
 pub fn same_at(bytes: &[u8], i: usize, run: &[u8]) -> bool
     requires { run_length * i + run_length ≤ length bytes.now }
     ensures { result ≡ eq_bytes (run_at bytes.now i) run.now }
 {
-    if run.len() != RUN_LENGTH {
-        return false;
-    }
-    let at = RUN_LENGTH * i;
-    let mut j = 0;
-    while j < RUN_LENGTH {
-        if bytes[at + j] != run[j] {
-            return false;
-        }
-        j += 1;
-    }
-    true
+    run_at(bytes, i) == run
 }
 
 // Whether the run at place i comes before the one given, first byte first.
@@ -30,23 +29,8 @@ pub fn less_at(bytes: &[u8], i: usize, run: &[u8]) -> bool
     requires { run_length * i + run_length ≤ length bytes.now }
     ensures { result ≡ lt_bytes (run_at bytes.now i) run.now }
 {
-    let at = RUN_LENGTH * i;
-    let mut j = 0;
-    while j < RUN_LENGTH {
-        if run.len() <= j {
-            return false;
-        }
-        let x = bytes[at + j];
-        let y = run[j];
-        if x < y {
-            return true;
-        }
-        if x != y {
-            return false;
-        }
-        j += 1;
-    }
-    RUN_LENGTH < run.len()
+    // `<` goes byte by byte, and `cmp` passes equal bytes in groups: a search for a run that is held took half as long by it.
+    run_at(bytes, i).cmp(&run).is_lt()
 }
 
 // One item: fills its own part of an array or a buffer.
@@ -54,11 +38,7 @@ pub fn put_item(item: &mut [u8], run: &[u8])
     requires { (length item.old ≡ run_length) × (length run.now ≡ run_length) }
     ensures { item.new ≡ run.now }
 {
-    let mut j = 0;
-    while j < RUN_LENGTH {
-        item[j] = run[j];
-        j += 1;
-    }
+    item.copy_from_slice(run);
 }
 
 // Puts the run at place i.
@@ -66,6 +46,5 @@ pub fn put_run(bytes: &mut [u8], i: usize, run: &[u8])
     requires { (run_length * i + run_length ≤ length bytes.old) × (length run.now ≡ run_length) }
     ensures { bytes.new ≡ put bytes.old (run_length * i) run.now }
 {
-    let at = RUN_LENGTH * i;
-    put_item(&mut bytes[at..at + RUN_LENGTH], run);
+    lent::bytes::copy_at(bytes, RUN_LENGTH * i, run);
 }

@@ -9,7 +9,6 @@ ghost use Rattle.runs.specs.Chosen.{picked, Chose, Listable, Valued, values_at};
 use crate::bytes;
 use crate::bytes::RUN_LENGTH;
 use crate::table::LARGE_LIMIT;
-use places::wide;
 
 // Places, in ascending order of their runs: as many as count says.
 #[derive(Clone, Copy)]
@@ -18,31 +17,20 @@ pub struct Chosen {
     pub count: usize,
 }
 
-fn one_if(t: bool) -> usize
-    ensures { (result ≡ cond t 1 0) × (result ≤ 1) }
-{
-    if t { 1 } else { 0 }
-}
-
 // The places of the table's runs whose mark is on.
 pub fn choose(table: &[u8], limit: usize, n: usize, on: &[bool]) -> Chosen
     requires { GoodRuns limit table.now n × (limit ≤ large_limit) × (n ≤ length on.now) }
     ensures { Chose (picked on.now (order limit table.now n)) result }
 {
     let start = RUN_LENGTH * limit;
-    let places = [0u8; LARGE_LIMIT];
     let mut c = Chosen {
-        places: places,
+        places: [0; LARGE_LIMIT],
         count: 0,
     };
-    let mut j = 0;
-    while j < n {
+    for j in 0..n {
         let b = table[start + j];
-        let k = c.count;
-        c.places[k] = b;
-        let i = wide(b);
-        c.count = k + one_if(on[i]);
-        j += 1;
+        c.places[c.count] = b;
+        c.count += usize::from(on[usize::from(b)]);
     }
     c
 }
@@ -52,12 +40,8 @@ pub fn put_runs<'a>(table: &'a [u8], places: &'a [u8], k: usize, out: &mut [u8])
     requires { Listable table.now places.now k out.old }
     ensures { out.new ≡ front (joined (map (run_at table.now) (take k places.now))) out.old }
 {
-    let mut j = 0;
-    while j < k {
-        let i = RUN_LENGTH * wide(places[j]);
-        let a = RUN_LENGTH * j;
-        bytes::put_item(&mut out[a..a + RUN_LENGTH], &table[i..i + RUN_LENGTH]);
-        j += 1;
+    for j in 0..k {
+        bytes::put_run(out, j, bytes::run_at(table, usize::from(places[j])));
     }
 }
 
@@ -66,10 +50,7 @@ pub fn put_values<'a>(values: &'a [u8], places: &'a [u8], k: usize, out: &mut [u
     requires { Valued values.now places.now k out.old }
     ensures { out.new ≡ front (values_at values.now (take k places.now)) out.old }
 {
-    let mut j = 0;
-    while j < k {
-        let i = wide(places[j]);
-        out[j] = values[i];
-        j += 1;
+    for j in 0..k {
+        out[j] = values[usize::from(places[j])];
     }
 }

@@ -4,11 +4,10 @@ ghost use Rattle.std.specs.Prelude.{◌≡◌, ◌+◌, ◌-◌, ◌<◌, ◌≤
 ghost use Rattle.lent.specs.Bytes.{put};
 ghost use Rattle.runs.specs.Members.{place};
 ghost use Rattle.runs.specs.Sorted.{sorted, spot};
-ghost use Rattle.runs.specs.Table.{small_limit, large_limit, runs, GoodRuns, Room, Pushed, Internable, InternedAs};
+ghost use Rattle.runs.specs.Table.{runs, GoodRuns, Room, Pushed, Internable, InternedAs};
 
 use crate::bytes;
 use crate::bytes::RUN_LENGTH;
-use places::wide;
 
 // Tables are of two sizes: so many runs, in so many bytes.
 pub const SMALL_LIMIT: usize = 64;
@@ -31,12 +30,13 @@ fn rank(table: &[u8], limit: usize, n: usize, run: &[u8]) -> usize
     requires { GoodRuns limit table.now n }
     ensures { result ≡ spot run.now (sorted (runs table.now n)) }
 {
+    // No `partition_point`: it asks for a test that can be called on any byte, and this one needs a place of the table.
     let start = RUN_LENGTH * limit;
     let mut low = 0;
     let mut high = n;
     while low < high {
         let mid = low + (high - low) / 2;
-        let i = wide(table[start + mid]);
+        let i = usize::from(table[start + mid]);
         if bytes::less_at(table, i, run) {
             low = mid + 1;
         } else {
@@ -53,7 +53,7 @@ pub fn find(table: &[u8], limit: usize, n: usize, run: &[u8]) -> usize
 {
     let p = rank(table, limit, n, run);
     if p < n {
-        let i = wide(table[RUN_LENGTH * limit + p]);
+        let i = usize::from(table[RUN_LENGTH * limit + p]);
         if bytes::same_at(table, i, run) {
             return i;
         }
@@ -66,16 +66,12 @@ fn shift(bytes: &mut [u8], a: usize, e: usize, v: u8)
     requires { (a ≤ e) × (e < length bytes.old) }
     ensures { bytes.new ≡ put bytes.old a (v ∷ take (e - a) (drop a bytes.old)) }
 {
-    let mut i = e;
-    while a < i {
-        bytes[i] = bytes[i - 1];
-        i -= 1;
-    }
+    bytes.copy_within(a..e, a + 1);
     bytes[a] = v;
 }
 
 // Puts a run that the table has not at place n.
-fn push(table: &mut [u8], limit: usize, n: usize, run: &[u8])
+pub fn push(table: &mut [u8], limit: usize, n: usize, run: &[u8])
     requires { Room limit table.old n run.now }
     ensures { Pushed limit table.old table.new n run.now }
 {
@@ -86,7 +82,7 @@ fn push(table: &mut [u8], limit: usize, n: usize, run: &[u8])
 }
 
 // The place of the run, which is put at place n where the table has it not.
-fn intern(table: &mut [u8], limit: usize, n: usize, run: &[u8]) -> Interned
+pub fn intern(table: &mut [u8], limit: usize, n: usize, run: &[u8]) -> Interned
     requires { Internable limit table.old n run.now }
     ensures { InternedAs limit table.old table.new n run.now result }
 {
@@ -99,26 +95,4 @@ fn intern(table: &mut [u8], limit: usize, n: usize, run: &[u8]) -> Interned
         place: n,
         count: n + 1,
     }
-}
-
-// The same for tables of two sizes.
-pub fn intern_small(table: &mut [u8; SMALL_TABLE], n: usize, run: &[u8]) -> Interned
-    requires { Internable small_limit table.old n run.now }
-    ensures { InternedAs small_limit table.old table.new n run.now result }
-{
-    intern(table, SMALL_LIMIT, n, run)
-}
-
-pub fn push_small(table: &mut [u8; SMALL_TABLE], n: usize, run: &[u8])
-    requires { Room small_limit table.old n run.now }
-    ensures { Pushed small_limit table.old table.new n run.now }
-{
-    push(table, SMALL_LIMIT, n, run);
-}
-
-pub fn push_large(table: &mut [u8; LARGE_TABLE], n: usize, run: &[u8])
-    requires { Room large_limit table.old n run.now }
-    ensures { Pushed large_limit table.old table.new n run.now }
-{
-    push(table, LARGE_LIMIT, n, run);
 }

@@ -22,7 +22,7 @@ use Rattle.insertion.proofs.AnswerLaws.{DelegationAdded, delegation_added_lem, d
 use Rattle.insertion.proofs.KeyLaws.{KeyRoom, can_intern, rest_room, three_keys, first_stands, second_stands, third_stands}
 use Rattle.insertion.proofs.NextLaws.{Parts, DelegationPushed, delegation_next, delegation_good}
 use Rattle.insertion.proofs.InsertionLaws.{is_added_lem, added, room_for, key_room, cited_long, cited_before, cited_here}
-use Rattle.insertion.proofs.insert_delegation.Goals.{After-intern_small-i, After-is_added, After-push_large, Else-not-is_added}
+use Rattle.insertion.proofs.insert_delegation.Goals.{After-intern-i, After-is_added, After-push, Else-not-is_added}
 use Rattle.insertion.proofs.insert_delegation.Goals as goal
 
 there : Else-not-is_added → Seen Delegation
@@ -52,11 +52,11 @@ room c =
     key_room c.args.store.now.keys.table c.args.store.now.keys.count (c.args.issuer.now ∷ others c.args.payload.now) c.args.store.now.good.keys (facts c).keys
 
 -- room for the subject once the issuer is in
-room-2 : (c : After-intern_small-i) → length c.args.issuer.now ≡ key_length → KeyRoom c.args.store.now.keys.table c.args.store.now.keys.count (c.args.issuer.now ∷ others c.args.payload.now)
-    → KeyRoom c.intern_small-i.new.table c.intern_small-i.result.count (others c.args.payload.now)
+room-2 : (c : After-intern-i) → length c.args.issuer.now ≡ key_length → KeyRoom c.args.store.now.keys.table c.args.store.now.keys.count (c.args.issuer.now ∷ others c.args.payload.now)
+    → KeyRoom c.intern-i.new.table c.intern-i.result.count (others c.args.payload.now)
 room-2 c long r =
     rest_room c.args.store.now.keys.table c.args.store.now.keys.count c.args.store.now.good.keys c.args.issuer.now (others c.args.payload.now) long r
-    c.intern_small-i.new.table c.intern_small-i.result c.intern_small-i.ensures
+    c.intern-i.new.table c.intern-i.result c.intern-i.ensures
 
 answered : (c : After-is_added) → c.delegation_answer-answer.result ≡ delegation_answer (committed c.args.store.now) c.args.digest.now c.args.issuer.now c.args.payload.now
 answered c =
@@ -67,36 +67,36 @@ pub delegation_answer-answer-requires : goal.delegation_answer-answer-requires
 delegation_answer-answer-requires c =
     (c.args.store.now.good.keys, λ h. rw c.row-row.ensures (row_fits c.args.store.now c.args.store.now.good c.find-at.result h))
 
-pub intern_small-i-requires : goal.intern_small-i-requires
-intern_small-i-requires c =
-    can_intern c.args.store.now.keys.table c.args.store.now.keys.count c.args.store.now.good.keys c.args.issuer.now (others c.args.payload.now) (facts (goal.at.intern_small-i-requires c).Else-not-is_added).issuer (room (goal.at.intern_small-i-requires c).Else-not-is_added)
+pub intern-i-requires : goal.intern-i-requires
+intern-i-requires c =
+    can_intern c.args.store.now.keys.table c.args.store.now.keys.count c.args.store.now.good.keys c.args.issuer.now (others c.args.payload.now) (facts (goal.at.intern-i-requires c).Else-not-is_added).issuer (room (goal.at.intern-i-requires c).Else-not-is_added)
 
-pub slice_bounds-intern_small-end : goal.slice_bounds-intern_small-end
-slice_bounds-intern_small-end c = let q = (part (goal.at.slice_bounds-intern_small-end c).Else-not-is_added).long in omega arith
+pub slice_bounds-intern-end : goal.slice_bounds-intern-end
+slice_bounds-intern-end c = let q = (part (goal.at.slice_bounds-intern-end c).Else-not-is_added).long in omega arith
 
-pub intern_small-a-requires : goal.intern_small-a-requires
+pub intern-a-requires : goal.intern-a-requires
 unfolding others
-intern_small-a-requires c =
+intern-a-requires c =
     let p = c.args.payload.now in
-    let i = c.intern_small-i in
-    can_intern i.new.table i.result.count i.ensures.good (take key_length p) (take key_length (drop key_length p) ∷ []) (part (goal.at.intern_small-a-requires c).Else-not-is_added).audience (room-2 (goal.at.intern_small-a-requires c).After-intern_small-i (facts (goal.at.intern_small-a-requires c).Else-not-is_added).issuer (room (goal.at.intern_small-a-requires c).Else-not-is_added))
+    let i = c.intern-i in
+    can_intern i.new.table i.result.count i.ensures.good (take key_length p) (take key_length (drop key_length p) ∷ []) (part (goal.at.intern-a-requires c).Else-not-is_added).audience (room-2 (goal.at.intern-a-requires c).After-intern-i (facts (goal.at.intern-a-requires c).Else-not-is_added).issuer (room (goal.at.intern-a-requires c).Else-not-is_added))
 
-pub slice_bounds-intern_small-end-2 : goal.slice_bounds-intern_small-end-2
-slice_bounds-intern_small-end-2 c = let q = (part (goal.at.slice_bounds-intern_small-end-2 c).Else-not-is_added).long in omega arith
+pub slice_bounds-intern-end-2 : goal.slice_bounds-intern-end-2
+slice_bounds-intern-end-2 c = let q = (part (goal.at.slice_bounds-intern-end-2 c).Else-not-is_added).long in omega arith
 
-pub intern_small-u-requires : goal.intern_small-u-requires
+pub intern-u-requires : goal.intern-u-requires
 unfolding others
-intern_small-u-requires c =
+intern-u-requires c =
     let p = c.args.payload.now in
-    let i = c.intern_small-i in
-    let a = c.intern_small-a in
-    can_intern a.new.table a.result.count a.ensures.good (take key_length (drop key_length p)) [] (part (goal.at.intern_small-u-requires c).Else-not-is_added).subject
-    (rest_room i.new.table i.result.count i.ensures.good (take key_length p) (take key_length (drop key_length p) ∷ []) (part (goal.at.intern_small-u-requires c).Else-not-is_added).audience (room-2 (goal.at.intern_small-u-requires c).After-intern_small-i (facts (goal.at.intern_small-u-requires c).Else-not-is_added).issuer (room (goal.at.intern_small-u-requires c).Else-not-is_added)) a.new.table a.result a.ensures)
+    let i = c.intern-i in
+    let a = c.intern-a in
+    can_intern a.new.table a.result.count a.ensures.good (take key_length (drop key_length p)) [] (part (goal.at.intern-u-requires c).Else-not-is_added).subject
+    (rest_room i.new.table i.result.count i.ensures.good (take key_length p) (take key_length (drop key_length p) ∷ []) (part (goal.at.intern-u-requires c).Else-not-is_added).audience (room-2 (goal.at.intern-u-requires c).After-intern-i (facts (goal.at.intern-u-requires c).Else-not-is_added).issuer (room (goal.at.intern-u-requires c).Else-not-is_added)) a.new.table a.result a.ensures)
 
 pub set_key-requires : goal.set_key-requires
 unfolding there
 set_key-requires c =
-    let i = c.intern_small-i.ensures in
+    let i = c.intern-i.ensures in
     let a = i.within in
     let b = i.good.room in
     (c.args.store.now.good.delegations.issuer.long, (facts (goal.at.set_key-requires c).Else-not-is_added).room, omega arith)
@@ -104,7 +104,7 @@ set_key-requires c =
 pub set_key-requires-2 : goal.set_key-requires-2
 unfolding there
 set_key-requires-2 c =
-    let i = c.intern_small-a.ensures in
+    let i = c.intern-a.ensures in
     let a = i.within in
     let b = i.good.room in
     (c.args.store.now.good.delegations.audience.long, (facts (goal.at.set_key-requires-2 c).Else-not-is_added).room, omega arith)
@@ -112,7 +112,7 @@ set_key-requires-2 c =
 pub set_key-requires-3 : goal.set_key-requires-3
 unfolding there
 set_key-requires-3 c =
-    let i = c.intern_small-u.ensures in
+    let i = c.intern-u.ensures in
     let a = i.within in
     let b = i.good.room in
     (c.args.store.now.good.delegations.subject.long, (facts (goal.at.set_key-requires-3 c).Else-not-is_added).room, omega arith)
@@ -129,18 +129,18 @@ pub put_citation-requires : goal.put_citation-requires
 unfolding there
 put_citation-requires c = (c.args.store.now.good.delegations.citation, (facts (goal.at.put_citation-requires c).Else-not-is_added).room)
 
-pub push_large-requires : goal.push_large-requires
+pub push-requires : goal.push-requires
 unfolding there
-push_large-requires c =
-    let f = facts (goal.at.push_large-requires c).Else-not-is_added in
+push-requires c =
+    let f = facts (goal.at.push-requires c).Else-not-is_added in
     room_for delegation_limit c.args.store.now.delegations.digests c.args.store.now.delegations.count c.args.digest.now c.find-at.result.0 c.args.store.now.good.delegations.digests (omega arith) f.room f.digest c.find-at.ensures f.new
 
 -- the parts of the store once all is written
-next : After-push_large → Parts
+next : After-push → Parts
 next c = record {
-  keys = record { table = c.intern_small-u.new.table; count = c.intern_small-u.result.count };
+  keys = record { table = c.intern-u.new.table; count = c.intern-u.result.count };
   delegations = record {
-    digests = c.push_large.new.table;
+    digests = c.push.new.table;
     count = c.args.store.now.delegations.count + 1;
     issuer = c.set_key.new.column;
     audience = c.set_key-2.new.column;
@@ -153,7 +153,7 @@ next c = record {
   version = c.args.store.now.version + 1;
 }
 
-pushed : (c : After-push_large) → c.args.store.now.delegations.count < delegation_limit → (w : Power) (t : Bool) → decoded c.args.payload.now ≡ Accepted w t → Cited (citation_of c.args.payload.now)
+pushed : (c : After-push) → c.args.store.now.delegations.count < delegation_limit → (w : Power) (t : Bool) → decoded c.args.payload.now ≡ Accepted w t → Cited (citation_of c.args.payload.now)
     → DelegationPushed c.args.store.now (next c) (delegation_from c.args.digest.now c.args.issuer.now c.args.payload.now w)
 unfolding next
 pushed c room w t read cited =
@@ -161,9 +161,9 @@ pushed c room w t read cited =
     let i = c.args.issuer.now in
     let p = c.args.payload.now in
     let n = st.delegations.count in
-    let k1 = c.intern_small-i in
-    let k2 = c.intern_small-a in
-    let k3 = c.intern_small-u in
+    let k1 = c.intern-i in
+    let k2 = c.intern-a in
+    let k3 = c.intern-u in
     let x = c.citation-citation.result.now in
     let col = st.delegations.citation in
     let l = st.good.delegations.citation in
@@ -171,7 +171,7 @@ pushed c room w t read cited =
     let b = take key_length (drop key_length p) in
     record {
       keys = three_keys st.keys.table k1.new.table k2.new.table k3.new.table st.keys.count i a b k1.result k2.result k3.result k1.ensures k2.ensures k3.ensures;
-      digests = c.push_large.ensures;
+      digests = c.push.ensures;
       room = room;
       count = refl;
       issuer = record {
@@ -205,7 +205,7 @@ invariant_of-store-2 c =
     let st = c.args.store.now in
     let e = (goal.at.invariant_of-store-2 c).Else-not-is_added in
     let f = facts e in
-    let p = (goal.at.invariant_of-store-2 c).After-push_large in
+    let p = (goal.at.invariant_of-store-2 c).After-push in
     record {
       good = delegation_good st (next p) st.good (delegation_from c.args.digest.now c.args.issuer.now c.args.payload.now f.power) (pushed p f.room f.power f.tag f.read (part e).citation);
     }
@@ -225,7 +225,7 @@ returns-clause-held c =
     let x = c.args.payload.now in
     let e = (goal.at.returns-clause-held c).Else-not-is_added in
     let f = facts e in
-    let p = (goal.at.returns-clause-held c).After-push_large in
+    let p = (goal.at.returns-clause-held c).After-push in
     let g = delegation_from d i x f.power in
     let with : with_delegation (committed st) g ≡ delegation_added (committed st) d i x = rw f.read in
     added c.delegation_answer-answer.result (committed st) _ _ (sym c.is_added.ensures ∙ c.if-not-is_added.false)

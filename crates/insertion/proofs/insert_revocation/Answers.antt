@@ -14,7 +14,7 @@ use Rattle.insertion.proofs.AnswerLaws.{RevocationAdded, revocation_added_lem, r
 use Rattle.insertion.proofs.KeyLaws.{KeyRoom, can_intern, one_key, stands}
 use Rattle.insertion.proofs.NextLaws.{Parts, RevocationPushed, revocation_next, revocation_good}
 use Rattle.insertion.proofs.InsertionLaws.{is_added_lem, added, room_for, key_room, column_long, column_before, column_here}
-use Rattle.insertion.proofs.insert_revocation.Goals.{After-is_added, After-push_small, Else-not-is_added}
+use Rattle.insertion.proofs.insert_revocation.Goals.{After-is_added, After-push, Else-not-is_added}
 use Rattle.insertion.proofs.insert_revocation.Goals as goal
 
 there : Else-not-is_added → Seen Revocation
@@ -43,14 +43,14 @@ pub revocation_answer-answer-requires : goal.revocation_answer-answer-requires
 revocation_answer-answer-requires c =
     (c.args.store.now.good.keys, λ h. revocation_fits c.args.store.now c.args.store.now.good c.find-at.result c.key_at-by.result (rw c.key_at-by.ensures) h)
 
-pub intern_small-i-requires : goal.intern_small-i-requires
-intern_small-i-requires c =
-    can_intern c.args.store.now.keys.table c.args.store.now.keys.count c.args.store.now.good.keys c.args.issuer.now [] (facts (goal.at.intern_small-i-requires c).Else-not-is_added).issuer (room (goal.at.intern_small-i-requires c).Else-not-is_added)
+pub intern-i-requires : goal.intern-i-requires
+intern-i-requires c =
+    can_intern c.args.store.now.keys.table c.args.store.now.keys.count c.args.store.now.good.keys c.args.issuer.now [] (facts (goal.at.intern-i-requires c).Else-not-is_added).issuer (room (goal.at.intern-i-requires c).Else-not-is_added)
 
 pub set_key-requires : goal.set_key-requires
 unfolding there
 set_key-requires c =
-    let i = c.intern_small-i.ensures in
+    let i = c.intern-i.ensures in
     let a = i.within in
     let b = i.good.room in
     (c.args.store.now.good.revocations.issuer.long, (facts (goal.at.set_key-requires c).Else-not-is_added).room, omega arith)
@@ -59,22 +59,22 @@ pub put_revoked-requires : goal.put_revoked-requires
 unfolding there
 put_revoked-requires c = (c.args.store.now.good.revocations.revoked, (facts (goal.at.put_revoked-requires c).Else-not-is_added).room, (facts (goal.at.put_revoked-requires c).Else-not-is_added).revoked)
 
-pub push_small-requires : goal.push_small-requires
+pub push-requires : goal.push-requires
 unfolding there
-push_small-requires c =
-    let f = facts (goal.at.push_small-requires c).Else-not-is_added in
+push-requires c =
+    let f = facts (goal.at.push-requires c).Else-not-is_added in
     room_for revocation_limit c.args.store.now.revocations.digests c.args.store.now.revocations.count c.args.digest.now c.find-at.result.0 c.args.store.now.good.revocations.digests (omega arith) f.room f.digest c.find-at.ensures f.new
 
 -- the parts of the store once all is written
-next : After-push_small → Parts
+next : After-push → Parts
 next c = record {
-  keys = record { table = c.intern_small-i.new.table; count = c.intern_small-i.result.count };
+  keys = record { table = c.intern-i.new.table; count = c.intern-i.result.count };
   delegations = c.args.store.now.delegations;
-  revocations = record { digests = c.push_small.new.table; count = c.args.store.now.revocations.count + 1; issuer = c.set_key.new.column; revoked = c.put_revoked.new.column };
+  revocations = record { digests = c.push.new.table; count = c.args.store.now.revocations.count + 1; issuer = c.set_key.new.column; revoked = c.put_revoked.new.column };
   version = c.args.store.now.version + 1;
 }
 
-pushed : (c : After-push_small) → c.args.store.now.revocations.count < revocation_limit → length c.args.revoked.now ≡ digest_length
+pushed : (c : After-push) → c.args.store.now.revocations.count < revocation_limit → length c.args.revoked.now ≡ digest_length
     → RevocationPushed c.args.store.now (next c) (revocation_from c.args.digest.now c.args.issuer.now c.args.revoked.now)
 unfolding next
 pushed c room long =
@@ -83,11 +83,11 @@ pushed c room long =
     let n = st.revocations.count in
     let l = st.good.revocations.revoked in
     record {
-      keys = one_key st.keys.table c.intern_small-i.new.table st.keys.count c.args.issuer.now c.intern_small-i.result c.intern_small-i.ensures;
-      digests = c.push_small.ensures;
+      keys = one_key st.keys.table c.intern-i.new.table st.keys.count c.args.issuer.now c.intern-i.result c.intern-i.ensures;
+      digests = c.push.ensures;
       room = room;
       count = refl;
-      issuer = record { place = c.intern_small-i.result.place; is_set = c.set_key.ensures; stands = stands st.keys.table c.intern_small-i.new.table st.keys.count c.args.issuer.now c.intern_small-i.result c.intern_small-i.ensures };
+      issuer = record { place = c.intern-i.result.place; is_set = c.set_key.ensures; stands = stands st.keys.table c.intern-i.new.table st.keys.count c.args.issuer.now c.intern-i.result c.intern-i.ensures };
       long = rw c.put_revoked.ensures (column_long revocation_limit n st.revocations.revoked l room x long);
       before = λ j p. rw c.put_revoked.ensures (column_before revocation_limit n st.revocations.revoked l room x long j p);
       revoked = rw c.put_revoked.ensures (column_here revocation_limit n st.revocations.revoked l room x long);
@@ -100,7 +100,7 @@ unfolding there next
 invariant_of-store-2 c =
     let st = c.args.store.now in
     let f = facts (goal.at.invariant_of-store-2 c).Else-not-is_added in
-    let p = (goal.at.invariant_of-store-2 c).After-push_small in
+    let p = (goal.at.invariant_of-store-2 c).After-push in
     record { good = revocation_good st (next p) st.good (revocation_from c.args.digest.now c.args.issuer.now c.args.revoked.now) (pushed p f.room f.revoked) }
 
 pub returns-then-not-is_added-clause-answer : goal.returns-then-not-is_added-clause-answer
@@ -115,5 +115,5 @@ returns-clause-held c =
     let st = c.args.store.now in
     let v = revocation_from c.args.digest.now c.args.issuer.now c.args.revoked.now in
     let f = facts (goal.at.returns-clause-held c).Else-not-is_added in
-    let p = (goal.at.returns-clause-held c).After-push_small in
+    let p = (goal.at.returns-clause-held c).After-push in
     added c.revocation_answer-answer.result (committed st) _ _ (sym c.is_added.ensures ∙ c.if-not-is_added.false) (revocation_next st (next p) st.good v (pushed p f.room f.revoked))

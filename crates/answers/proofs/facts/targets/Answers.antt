@@ -1,12 +1,12 @@
 -- `facts::targets` meets its contract. The loop's invariant: the first j entries are the places of the first j runs.
-use Prim.Native.Nat.{ℕ, ◌+◌, ◌*◌, ◌-◌, ◌<◌}
-use mathlib.Core.Path.{◌≡◌, refl, ◌∙◌, ap}
+use Prim.Native.Nat.{ℕ, ◌+◌, ◌<◌}
+use mathlib.Core.Path.{◌≡◌, ◌∙◌, ap}
 use mathlib.Core.List.{List}
 use native.Mathlib.Decide.{dec_lt}
 use native.Mathlib.Omega.{arith}
-use lib.ListN.{length, get_or, take, drop, length-set, set}
+use lib.ListN.{length, get_or, length-set, set}
 use lib.Seq.{get_or-set_same, get_or-set_other}
-use Rattle.runs.specs.Bytes.{run_length, run_at}
+use Rattle.runs.specs.Bytes.{run_at}
 use Rattle.runs.specs.Members.{place}
 use Rattle.runs.specs.Table.{runs}
 use Rattle.runs.proofs.MemberLaws.{place_le}
@@ -24,50 +24,14 @@ extend digests revoked target n j v f l e i h = go (dec_lt i j)
     go (yes k) = get_or-set_other target j i v 0 (omega arith) ∙ f i k
     go (no k) = let q : i ≡ j = omega (arith, k) in rw q (get_or-set_same target j v 0 l ∙ e)
 
--- the part that is lent is the run
-part : (b : List ℕ) (j : ℕ) → take (run_length * j + run_length - run_length * j) (drop (run_length * j) b) ≡ run_at b j
-unfolding run_at
-part b j = let e : run_length * j + run_length - run_length * j ≡ run_length = omega arith in ap (λ k. take k (drop (run_length * j) b)) e
-
-pub loop-j-init : goal.loop-j-init
-loop-j-init c = record { within = omega arith; long = refl; done = λ j h. absurd (omega (arith, h)) }
-
-pub overflow_mul-a : goal.overflow_mul-a
-overflow_mul-a c = omega arith
-
-pub overflow_add-a : goal.overflow_add-a
-overflow_add-a c = omega arith
-
-pub slice_bounds-find-count : goal.slice_bounds-find-count
-slice_bounds-find-count c = omega arith
-
-pub slice_bounds-find-start : goal.slice_bounds-find-start
-slice_bounds-find-start c = omega arith
-
-pub slice_bounds-find-end : goal.slice_bounds-find-end
-slice_bounds-find-end c = omega arith
-
-pub find-at-requires : goal.find-at-requires
-find-at-requires c = c.requires.0
-
 pub overflow_cast-target : goal.overflow_cast-target
 overflow_cast-target c =
     let g = c.requires.0 in
     let r = g.room in
     let l = runs_long delegation_limit c.args.digests.now c.args.n g in
-    let p = place_le (runs c.args.digests.now c.args.n) (run_at c.args.revoked.now c.loop-j.j) in
-    let e : c.find-at.result.0 ≡ place (runs c.args.digests.now c.args.n) (run_at c.args.revoked.now c.loop-j.j) =
-    c.find-at.ensures ∙ ap (λ k. place (runs c.args.digests.now c.args.n) k) (part c.args.revoked.now c.loop-j.j) in
+    let p = place_le (runs c.args.digests.now c.args.n) c.run_at.result.now in
+    let e = c.find-at.ensures in
     record { fits = omega arith }
-
-pub bounds-target-j : goal.bounds-target-j
-bounds-target-j c = omega arith
-
-pub overflow_add-j : goal.overflow_add-j
-overflow_add-j c = omega arith
-
-pub loop-j-smaller : goal.loop-j-smaller
-loop-j-smaller c = omega arith
 
 pub loop-j-preserved : goal.loop-j-preserved
 loop-j-preserved c =
@@ -75,14 +39,7 @@ loop-j-preserved c =
     let j = c.loop-j.j in
     let w = i.long in
     record {
-      within = omega arith;
       long = simp length-set i.long;
       done = extend c.args.digests.now c.args.revoked.now c.loop-j.target c.args.n j c.find-at.result.0 i.done (omega arith)
-          (c.find-at.ensures ∙ ap (λ k. place (runs c.args.digests.now c.args.n) k) (part c.args.revoked.now j));
+          (c.find-at.ensures ∙ ap (λ k. place (runs c.args.digests.now c.args.n) k) c.run_at.ensures.value);
     }
-
-pub returns : goal.returns
-returns c =
-    let i = c.loop-j.invariant in
-    let h = i.within in
-    (i.long, λ j k. i.done j (omega (arith, c.loop-j-test.false)))

@@ -1,4 +1,4 @@
--- `marks::letter` meets its contract: each test settles the byte.
+-- `marks::letter` meets its contract: each arm settles the byte.
 use Prim.Native.Nat.{ℕ, zero, suc, pred, ◌≤◌, ◌<◌}
 use mathlib.Core.Path.{◌≡◌, refl}
 use native.Mathlib.Omega.{arith}
@@ -17,16 +17,16 @@ high : (b : ℕ) → 1 < b → ¬ (b ≡ 2) → ¬ (b ≡ 3) → 65 ≡ letter_a
 unfolding power_of
 high b h n m = simp (ne_eqb (pred b) 0 (λ e. absurd (omega arith)), ne_eqb (pred b) 1 (λ e. n (omega arith)), ne_eqb (pred b) 2 (λ e. m (omega arith)))
 
-pub returns-then-byte-le1 : goal.returns-then-byte-le1
-returns-then-byte-le1 c = low c.args.byte c.if-byte-le1.true
+pub returns-in-0 : goal.returns-in-0
+returns-in-0 c = low c.args.byte (omega arith)
 
-pub returns-then-byte-eq2 : goal.returns-then-byte-eq2
+pub returns-in-2 : goal.returns-in-2
 unfolding power_of
-returns-then-byte-eq2 c = rw c.if-byte-eq2.true refl
+returns-in-2 c = rw c.in-2.is refl
 
-pub returns-then-byte-eq3 : goal.returns-then-byte-eq3
+pub returns-in-3 : goal.returns-in-3
 unfolding power_of
-returns-then-byte-eq3 c = rw c.if-byte-eq3.true refl
+returns-in-3 c = rw c.in-3.is refl
 
-pub returns : goal.returns
-returns c = high c.args.byte c.if-byte-le1.false c.if-byte-eq2.false c.if-byte-eq3.false
+pub returns-in_default : goal.returns-in_default
+returns-in_default c = high c.args.byte (omega arith) (λ e. omega arith) (λ e. omega arith)

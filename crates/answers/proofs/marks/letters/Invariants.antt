@@ -1,5 +1,5 @@
 -- `marks::letters` meets its contract. The loop's invariant: the first x letters are right.
-use Prim.Native.Nat.{ℕ, ◌-◌, ◌≤◌, ◌<◌}
+use Prim.Native.Nat.{ℕ, ◌<◌}
 use mathlib.Core.Path.{◌≡◌}
 use lib.ListN.{length, get_or}
 use mathlib.Core.List.{List}
@@ -13,7 +13,4 @@ pub record Lettered (row : List ℕ) (n : ℕ) (out : List ℕ) : Type 0 where
   pub are : (x : ℕ) → x < n → get_or out x 0 ≡ letter_at (get_or row x 0)
 
 abbrev pub invariant-loop-x : goal.invariant-loop-x
-invariant-loop-x l = (l.x ≤ key_limit) × Lettered l.row l.x l.out
-
-abbrev pub decreases-loop-x : goal.decreases-loop-x
-decreases-loop-x l = key_limit - l.x
+invariant-loop-x l = Lettered l.row l.x l.out

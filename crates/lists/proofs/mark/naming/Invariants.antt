@@ -1,5 +1,5 @@
 -- The marks before i say whether their revocations name the target.
-use Prim.Native.Nat.{ℕ, ◌-◌, ◌≤◌, ◌<◌}
+use Prim.Native.Nat.{ℕ, ◌<◌}
 use mathlib.Core.Path.{◌≡◌}
 use mathlib.Core.Bool.{false}
 use lib.ListN.{length, get_or}
@@ -8,7 +8,7 @@ use Rattle.keyline.specs.Limits.{revocation_limit}
 use Rattle.lists.proofs.mark.naming.Given as goal
 
 abbrev pub invariant-loop-i : goal.invariant-loop-i
-invariant-loop-i l = (l.i ≤ l.n) × (length l.on ≡ revocation_limit) × ((k : ℕ) → k < l.i → get_or l.on k false ≡ eq_bytes (run_at l.revoked k) l.target)
-
-abbrev pub decreases-loop-i : goal.decreases-loop-i
-decreases-loop-i l = l.n - l.i
+invariant-loop-i l = record {
+  long : length l.on ≡ revocation_limit;
+  marked : (k : ℕ) → k < l.i → get_or l.on k false ≡ eq_bytes (run_at l.revoked k) l.target;
+}

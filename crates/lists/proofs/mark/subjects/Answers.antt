@@ -1,11 +1,11 @@
--- The keys that the column's first i name are marked.
+-- The keys that the column's first ones name are marked.
 use Prim.Native.Nat.{ℕ}
 use mathlib.Core.Path.{◌≡◌, refl, ◌∙◌}
 use mathlib.Core.Bool.{false}
 use mathlib.Core.List.{[]}
 use native.Mathlib.Omega.{arith}
-use native.Mathlib.Nat.{le_antisymm}
 use lib.ListN.{get_or, replicate, length-set}
+use lib.Seq.{get_or-take, length-take-le}
 use Rattle.places.proofs.Repeated.{repeated}
 use Rattle.keyline.specs.Limits.{key_limit}
 use Rattle.lists.specs.Marks.{among}
@@ -16,35 +16,26 @@ none_marked : (n k : ℕ) → get_or (replicate n false) k false ≡ among k []
 unfolding among
 none_marked n k = repeated n k false
 
-pub loop-i-init : goal.loop-i-init
-loop-i-init c = (omega arith, refl, λ k. none_marked key_limit k)
+pub loop-key-init : goal.loop-key-init
+loop-key-init c = record { long = refl; marked = λ k. none_marked key_limit k }
 
-pub bounds-subject-i : goal.bounds-subject-i
-bounds-subject-i c = let h = c.requires.0 in omega arith
-
-pub wide-k-requires : goal.wide-k-requires
-wide-k-requires c = omega arith
-
-pub bounds-on-k : goal.bounds-on-k
-bounds-on-k c = let v = c.loop-i.invariant.1 in let h = c.requires.1 c.loop-i.i in let e = c.wide-k.ensures in omega arith
-
-pub overflow_add-i : goal.overflow_add-i
-overflow_add-i c = omega arith
-
-pub loop-i-smaller : goal.loop-i-smaller
-loop-i-smaller c = omega arith
-
-pub loop-i-preserved : goal.loop-i-preserved
-loop-i-preserved c =
-    let l = c.loop-i in
-    let v = l.invariant.1 in
+pub loop-key-preserved : goal.loop-key-preserved
+loop-key-preserved c =
+    let l = c.loop-key in
+    let v = l.invariant.long in
     let p = c.requires.0 in
-    let h = c.requires.1 l.i in
-    let e = c.wide-k.ensures in
-    (omega arith, simp length-set l.invariant.1, among_more l.on c.args.subject.now l.i c.wide-k.result (omega arith) (omega arith) c.wide-k.ensures l.invariant.2)
+    let h = c.requires.1 l.key-index in
+    let q = c.loop-key-test.true in
+    let k = length-take-le c.args.n c.args.subject.now c.requires.0 in
+    let e : c.from.result ≡ get_or c.args.subject.now l.key-index 0 = c.from.ensures ∙ get_or-take c.args.n c.args.subject.now l.key-index 0 (omega arith) in
+    record {
+      long = simp length-set v;
+      marked = among_more l.on c.args.subject.now l.key-index c.from.result (omega arith) (omega arith) e l.invariant.marked;
+    }
 
 pub returns : goal.returns
 returns c =
-    let l = c.loop-i in
-    let e : l.i ≡ c.args.n = le_antisymm l.invariant.0 c.loop-i-test.false in
-    (l.invariant.1, λ k. l.invariant.2 k ∙ rw e)
+    let l = c.loop-key in
+    let k = length-take-le c.args.n c.args.subject.now c.requires.0 in
+    let e : l.key-index ≡ c.args.n = omega arith in
+    (l.invariant.long, λ k. l.invariant.marked k ∙ rw e)

@@ -11,14 +11,14 @@ rank-p-requires c = c.requires
 
 pub same_at-requires : goal.same_at-requires
 same_at-requires c =
-    there_fits c.args.limit c.args.table.now c.args.n c.requires c.rank-p.result c.if-p-n.true c.wide-i.result c.wide-i.ensures
+    there_fits c.args.limit c.args.table.now c.args.n c.requires c.rank-p.result c.if-p-n.true c.from-i.result c.from-i.ensures
 
 pub returns-then-same_at : goal.returns-then-same_at
 returns-then-same_at c =
     let t = c.args.table.now in
-    let i = c.wide-i.result in
+    let i = c.from-i.result in
     found_at c.args.limit t c.args.n c.requires c.args.run.now i
-    (there_below c.args.limit t c.args.n c.requires c.rank-p.result c.if-p-n.true i c.wide-i.ensures)
+    (there_below c.args.limit t c.args.n c.requires c.rank-p.result c.if-p-n.true i c.from-i.ensures)
     (eq_true (run_at t i) c.args.run.now (sym c.same_at.ensures ∙ c.if-same_at.true))
 
 pub returns-else-same_at : goal.returns-else-same_at
@@ -26,7 +26,7 @@ returns-else-same_at c =
     let t = c.args.table.now in
     let x = c.args.run.now in
     not_found c.args.limit t c.args.n c.requires x
-    (not_at_spot c.args.limit t c.args.n c.requires x (λ h. rw (← c.rank-p.ensures, ← c.wide-i.ensures) (sym c.same_at.ensures ∙ c.if-same_at.false)))
+    (not_at_spot c.args.limit t c.args.n c.requires x (λ h. rw (← c.rank-p.ensures, ← c.from-i.ensures) (sym c.same_at.ensures ∙ c.if-same_at.false)))
 
 pub returns-else-p-n : goal.returns-else-p-n
 returns-else-p-n c =

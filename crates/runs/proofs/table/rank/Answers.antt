@@ -24,13 +24,10 @@ overflow_add-start c = omega arith
 pub bounds-table-start : goal.bounds-table-start
 bounds-table-start c = omega arith
 
-pub wide-i-requires : goal.wide-i-requires
-wide-i-requires c = omega arith
-
 pub less_at-requires : goal.less_at-requires
 less_at-requires c =
     let l = c.loop-low in
-    there_fits c.args.limit c.args.table.now c.args.n c.requires (l.low + (l.high - l.low) / 2) (omega arith) c.wide-i.result c.wide-i.ensures
+    there_fits c.args.limit c.args.table.now c.args.n c.requires (l.low + (l.high - l.low) / 2) (omega arith) c.from-i.result c.from-i.ensures
 
 pub overflow_add-low : goal.overflow_add-low
 overflow_add-low c = omega arith
@@ -42,7 +39,7 @@ pub loop-low-preserved-then-less_at : goal.loop-low-preserved-then-less_at
 loop-low-preserved-then-less_at c =
     let l = c.loop-low in
     let h =
-    there_above c.args.limit c.args.table.now c.args.n c.requires (l.low + (l.high - l.low) / 2) (omega arith) c.wide-i.result c.wide-i.ensures
+    there_above c.args.limit c.args.table.now c.args.n c.requires (l.low + (l.high - l.low) / 2) (omega arith) c.from-i.result c.from-i.ensures
     c.args.run.now (sym c.less_at.ensures ∙ c.if-less_at.true) in
     (omega arith, l.invariant.1, l.invariant.2)
 
@@ -53,7 +50,7 @@ pub loop-low-preserved : goal.loop-low-preserved
 loop-low-preserved c =
     let l = c.loop-low in
     let h =
-    there_not c.args.limit c.args.table.now c.args.n c.requires (l.low + (l.high - l.low) / 2) (omega arith) c.wide-i.result c.wide-i.ensures
+    there_not c.args.limit c.args.table.now c.args.n c.requires (l.low + (l.high - l.low) / 2) (omega arith) c.from-i.result c.from-i.ensures
     c.args.run.now (sym c.less_at.ensures ∙ c.if-less_at.false) in
     (l.invariant.0, h, omega arith)
 
