@@ -7,7 +7,6 @@ ghost use Rattle.tables.specs.Insertion.{is_added, held_answer, accepted_answer,
 ghost use Rattle.tables.specs.Look.{argument, revocation_argument, RowFits, RevocationFits, row_there, revoked_there, delegation_there, revocation_there, room_answer};
 
 use crate::delegations::DelegationRow;
-use codec::delegation::Decoded;
 use keyline::limits::{DELEGATION_LIMIT, DIGEST_LENGTH, KEY_LENGTH, KEY_LIMIT, REVOCATION_LIMIT};
 use keyline::refusal::Refusal;
 use places::{DelegationPlace, KeyPlace, RevocationPlace};
@@ -79,7 +78,7 @@ fn same_content<'a>(
     if !bytes::same_at(keys, s.0, subject) {
         return false;
     }
-    if row.power != power_levels::power::rank(power) {
+    if row.power != power.rank() {
         return false;
     }
     if row.cited {
@@ -141,23 +140,20 @@ pub fn delegation_answer<'a>(
         return Answer::Refused(Refusal::BadLength(issuer.len()));
     }
     match codec::delegation::decode(payload) {
-        Decoded::Refused(why) => Answer::Refused(why),
-        Decoded::Accepted(power, _) => {
-            let citation = codec::delegation::citation(payload);
-            accepted_answer(
-                keys,
-                m,
-                citations,
-                n,
-                at,
-                row,
-                issuer,
-                &payload[0..KEY_LENGTH],
-                &payload[KEY_LENGTH..KEY_LENGTH + KEY_LENGTH],
-                power,
-                citation,
-            )
-        }
+        Err(why) => Answer::Refused(why),
+        Ok(found) => accepted_answer(
+            keys,
+            m,
+            citations,
+            n,
+            at,
+            row,
+            issuer,
+            found.audience,
+            found.subject,
+            found.power,
+            found.citation,
+        ),
     }
 }
 
