@@ -8,7 +8,6 @@ ghost use Rattle.tables.specs.Insertion.{read_rank, delegation_answer, delegatio
 ghost use Rattle.store.specs.Store.{committed, GoodStore};
 ghost use Rattle.insertion.specs.Inserted.{Insertion};
 
-use codec::delegation::Decoded;
 use keyline::limits::KEY_LENGTH;
 use places::{DelegationPlace, KeyPlace, RevocationPlace};
 use runs::table;
@@ -26,8 +25,8 @@ fn rank_of(payload: &[u8]) -> u8
     ensures { result ≡ read_rank (decoded payload.now) }
 {
     match codec::delegation::decode(payload) {
-        Decoded::Refused(_) => 0,
-        Decoded::Accepted(power, _) => power_levels::power::rank(power),
+        Err(_) => 0,
+        Ok(found) => found.power.rank(),
     }
 }
 
