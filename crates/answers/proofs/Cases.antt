@@ -34,7 +34,7 @@ use Rattle.answers.specs.Sought.{PairOf, DelegationOf}
 use Rattle.power_levels.specs.declared.power.Power.{Power}
 use Rattle.answers.specs.declared.sought.Pair.{Pair}
 use Rattle.answers.specs.declared.sought.Pair.TheVariants as pair
-use Rattle.std.specs.Prelude.{Result, Ok, Err, Some, None, IsErrAnd, Option as Maybe}
+use Rattle.std.specs.Prelude.{Result, Ok, Err, Some, None, Option as Maybe}
 
 -- ## Bytes that say a level are at most 4
 level_small : (b : ℕ) {l : ℕ} → level_of b ≡ some l → l ≤ Admin → b ≤ level_count
@@ -198,8 +198,3 @@ dies_revoked (is_revoked k h n r) = n
 
 pub dies_unsupported : {W : Shape} {G : Graph W} {d : W.Del} → StandingIs G d rules.unsupported → ¬ rules.Live G d
 dies_unsupported (is_unsupported h n r) = n
-
--- ## `?` hands a refusal on as it is
-pub handed_on : {A : Type 0} (r : Result A Refusal) (why : Refusal) → IsErrAnd r (λ e. e ≡ why) → r ≡ Err why
-handed_on (Ok a) why h = absurd h
-handed_on (Err e) why h = ap Err h

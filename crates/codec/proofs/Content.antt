@@ -4,10 +4,11 @@ use Prim.Native.Nat.{ℕ}
 use mathlib.Core.Path.{◌≡◌, sym, ap, ◌∙◌}
 use mathlib.Core.Bool.{Bool}
 use mathlib.Core.List.{List}
+use Rattle.std.specs.Prelude.{Result, Ok}
 use Rattle.power_levels.specs.Power.{byte_of}
-use Rattle.codec.specs.Delegation.{audience_of, subject_of, power_byte_of, decoded, citation_of, encoded}
+use Rattle.codec.specs.Delegation.{Found, found, audience_of, subject_of, power_byte_of, decoded, citation_of, encoded}
 use Rattle.power_levels.specs.declared.power.Power.{Power}
-use Rattle.codec.specs.declared.delegation.Decoded.TheVariants.{Accepted}
+use Rattle.keyline.specs.declared.refusal.Refusal.{Refusal}
 use Rattle.power_levels.proofs.Levels.{level_byte, same_byte}
 use Rattle.codec.proofs.Parts.{RightLengths, has_parts, parts}
 
@@ -20,10 +21,10 @@ pub record Encodes (s : List ℕ) (p : Power) (t : Bool) : Type 0 where
   pub bytes : s ≡ encoded audience subject (byte_of p) citation
 
 -- The reader accepts those, and nothing else.
-pub encodes_accepted : (s : List ℕ) (p : Power) (t : Bool) → Encodes s p t → decoded s ≡ Accepted p t
+pub encodes_accepted : (s : List ℕ) (p : Power) (t : Bool) → Encodes s p t → decoded s ≡ Ok (found p t)
 encodes_accepted s p t k = ap decoded k.bytes ∙ (has_parts k.audience k.subject (byte_of p) k.citation p t k.lengths (level_byte p)).accepted
 
-pub accepted_encodes : (s : List ℕ) (p : Power) (t : Bool) → decoded s ≡ Accepted p t → Encodes s p t
+pub accepted_encodes : (s : List ℕ) (p : Power) (t : Bool) → decoded s ≡ Ok (found p t) → Encodes s p t
 accepted_encodes s p t e =
     let k = parts s p t e in
     record { audience = audience_of s; subject = subject_of s; citation = citation_of s; lengths = k.lengths; bytes = sym k.whole }
@@ -36,12 +37,12 @@ pub record SameParts (s r : List ℕ) (p q : Power) : Type 0 where
   pub citation : citation_of s ≡ citation_of r
 
 -- Equal parts, equal bytes; and equal bytes, equal parts.
-pub same_bytes : (s r : List ℕ) (p q : Power) (t u : Bool) → decoded s ≡ Accepted p t → decoded r ≡ Accepted q u → SameParts s r p q → s ≡ r
+pub same_bytes : (s r : List ℕ) (p q : Power) (t u : Bool) → decoded s ≡ Ok (found p t) → decoded r ≡ Ok (found q u) → SameParts s r p q → s ≡ r
 same_bytes s r p q t u e f k = sym (parts s p t e).whole ∙ rw (k.audience, k.subject, k.power, k.citation) (parts r q u f).whole
 
-pub same_parts : (s r : List ℕ) (p q : Power) (t u : Bool) → decoded s ≡ Accepted p t → decoded r ≡ Accepted q u → s ≡ r → SameParts s r p q
+pub same_parts : (s r : List ℕ) (p q : Power) (t u : Bool) → decoded s ≡ Ok (found p t) → decoded r ≡ Ok (found q u) → s ≡ r → SameParts s r p q
 same_parts s r p q t u e f k =
-    let g : Accepted p t ≡ Accepted q u = sym e ∙ ap decoded k ∙ f in
+    let g : ◌≡◌ {A = Result Found Refusal} (Ok (found p t)) (Ok (found q u)) = sym e ∙ ap decoded k ∙ f in
     record { audience = ap audience_of k; subject = ap subject_of k; power = cc; citation = ap citation_of k }
 
 -- The same of parts that are held apart: one payload is not the encoding of two.

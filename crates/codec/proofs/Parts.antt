@@ -7,15 +7,15 @@ use mathlib.Core.List.{List, [], ◌∷◌, ◌++◌, append_assoc}
 use native.Mathlib.Omega.{arith}
 use lib.ListN.{length, drop, length-append, length-drop, take-append-drop, drop_of_length-le}
 use lib.Seq.{get_or_at, take_at, drop_at, drop-cons, drop-drop, take_all, append_snoc, length-take-le}
+use Rattle.std.specs.Prelude.{Ok, Err}
 use Rattle.keyline.specs.Limits.{key_length, digest_length, power_at, tag_at, payload_length}
 use Rattle.power_levels.specs.Power.{level_of, byte_of}
-use Rattle.codec.specs.Delegation.{audience_of, subject_of, power_byte_of, tag_byte_of, decoded, cited, citation_of, tag_for, encoded}
+use Rattle.codec.specs.Delegation.{found, IsPayload, audience_of, subject_of, power_byte_of, tag_byte_of, decoded, cited, citation_of, tag_for, encoded}
 use Rattle.power_levels.specs.declared.power.Power.{Power}
-use Rattle.power_levels.specs.declared.power.Level.TheVariants.{Is}
 use Rattle.keyline.specs.declared.refusal.Refusal.{Refusal}
-use Rattle.codec.specs.declared.delegation.Decoded.TheVariants.{Accepted, Refused}
+use Rattle.codec.specs.declared.delegation.Payload.{Payload}
 use Rattle.power_levels.proofs.Levels.{byte_level}
-use Rattle.codec.proofs.Reading.{tagWith, lengthWith, citation_with, at_least_base, sound, complete}
+use Rattle.codec.proofs.Reading.{tagWith, lengthWith, citation_with, at_least_base, Accepts, sound, complete}
 
 -- parts of the right lengths; t says whether there is a citation
 pub record RightLengths (audience subject citation : List ℕ) (t : Bool) : Type 0 where
@@ -26,7 +26,7 @@ pub record RightLengths (audience subject citation : List ℕ) (t : Bool) : Type
 -- w is an accepted payload with these parts
 pub record HasParts (w audience subject : List ℕ) (power : ℕ) (citation : List ℕ) (p : Power) (t : Bool) : Type 0 where
   pub long : length w ≡ lengthWith t
-  pub accepted : decoded w ≡ Accepted p t
+  pub accepted : decoded w ≡ Ok (found p t)
   pub same_audience : audience_of w ≡ audience
   pub same_subject : subject_of w ≡ subject
   pub same_power : power_byte_of w ≡ power
@@ -47,7 +47,7 @@ no_bytes [] e = refl
 no_bytes (x ∷ l) e = absurd (omega arith)
 
 -- From the parts to the payload. `keys` is the audience and the subject, which end where the power byte stands.
-module _ (a s : List ℕ) (b : ℕ) (c : List ℕ) (p : Power) (t : Bool) (r : RightLengths a s c t) (l : level_of b ≡ Is p) where
+module _ (a s : List ℕ) (b : ℕ) (c : List ℕ) (p : Power) (t : Bool) (r : RightLengths a s c t) (l : level_of b ≡ Ok p) where
   keys : List ℕ
   keys = a ++ s
 
@@ -85,14 +85,14 @@ module _ (a s : List ℕ) (b : ℕ) (c : List ℕ) (p : Power) (t : Bool) (r : R
       let e : encoded a s b c ≡ q ++ c = by_keys ∙ sym (append_snoc keys b (tag_for (length c) ∷ c)) ∙ sym (append_snoc (keys ++ (b ∷ [])) (tag_for (length c)) c) in
       rw e (drop_at q c payload_length (rw (length-append, length-append, keys_long)))
 
-  accepted : decoded (encoded a s b c) ≡ Accepted p t
+  accepted : decoded (encoded a s b c) ≡ Ok (found p t)
   accepted = complete (encoded a s b c) p t (record { level = ap level_of power_back ∙ l; long = long; tag = tag_back })
 
   citation_back : citation_of (encoded a s b c) ≡ c
   unfolding citation_of
   citation_back = rw accepted (kept t r.citation_long)
     where
-      kept : (u : Bool) → length c ≡ citation_with u → cited (Accepted p u) (encoded a s b c) ≡ c
+      kept : (u : Bool) → length c ≡ citation_with u → cited (Ok (found p u)) (encoded a s b c) ≡ c
       kept true e = rw behind_tag (take_all digest_length c (omega arith))
       kept false e = no_bytes c e
 
@@ -108,7 +108,7 @@ module _ (a s : List ℕ) (b : ℕ) (c : List ℕ) (p : Power) (t : Bool) (r : R
       }
 
 -- From the payload to its parts: the citation is what stands behind the tag, and the four pieces laid side by side are the payload again.
-citation_behind : (s : List ℕ) (p : Power) (t : Bool) → length s ≡ lengthWith t → cited (Accepted p t) s ≡ drop payload_length s
+citation_behind : (s : List ℕ) (p : Power) (t : Bool) → length s ≡ lengthWith t → cited (Ok (found p t)) s ≡ drop payload_length s
 citation_behind s p true e = take_all digest_length (drop payload_length s) (simp length-drop (omega arith))
 citation_behind s p false e = sym (drop_of_length-le s {i = payload_length} (omega arith))
 
@@ -117,7 +117,7 @@ behind_long n true e = omega arith
 behind_long n false e = omega arith
 
 -- a refused payload has none
-pub refused_citation : (s : List ℕ) (r : Refusal) → decoded s ≡ Refused r → citation_of s ≡ []
+pub refused_citation : (s : List ℕ) (r : Refusal) → decoded s ≡ Err r → citation_of s ≡ []
 unfolding citation_of
 refused_citation s r e = rw e
 
@@ -126,7 +126,7 @@ pub record Parts (s : List ℕ) (p : Power) (t : Bool) : Type 0 where
   pub power_byte : power_byte_of s ≡ byte_of p
   pub whole : encoded (audience_of s) (subject_of s) (byte_of p) (citation_of s) ≡ s
 
-module _ (s : List ℕ) (p : Power) (t : Bool) (e : decoded s ≡ Accepted p t) where
+module _ (s : List ℕ) (p : Power) (t : Bool) (e : decoded s ≡ Ok (found p t)) where
   base : payload_length ≤ length s
   base = at_least_base (length s) t (sound s p t e).long
 
@@ -159,3 +159,10 @@ module _ (s : List ℕ) (p : Power) (t : Bool) (e : decoded s ≡ Accepted p t) 
         citation_long = citation_long;
       } in
       record { lengths = right; power_byte = power_is; whole = whole }
+
+-- What is handed over of an accepted payload, where the part behind the tag is the citation.
+pub is_payload : (s : List ℕ) (p : Payload) (t : Bool) → Accepts s p.power t
+    → p.audience.now ≡ audience_of s → p.subject.now ≡ subject_of s → p.citation.now ≡ drop payload_length s → IsPayload s p
+is_payload s p t a audience subject citation =
+    let e = complete s p.power t a in
+    record { has_citation = t; accepted = e; audience = audience; subject = subject; citation = citation ∙ sym (citation_is s p.power t e) }

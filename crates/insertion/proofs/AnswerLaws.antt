@@ -7,10 +7,9 @@ use native.Mathlib.Omega.{arith}
 use lib.ListN.{length, get_or}
 use lib.Dec.{ltb, eqb}
 use borrow.Author.Tests.{eqb-true, ltb-true, ltb-false}
-use Rattle.codec.specs.Delegation.{decoded}
+use Rattle.std.specs.Prelude.{Result, Ok, Err}
+use Rattle.codec.specs.Delegation.{Found, found, decoded}
 use Rattle.power_levels.specs.declared.power.Power.{Power}
-use Rattle.codec.specs.declared.delegation.Decoded.{Decoded}
-use Rattle.codec.specs.declared.delegation.Decoded.TheVariants as reading
 use Rattle.keyline.specs.declared.refusal.Refusal.{Refusal}
 use Rattle.keyline.specs.declared.refusal.Refusal.TheVariants.{FullDelegations, FullRevocations, FullKeys}
 use Rattle.places.specs.declared.DelegationPlace.{DelegationPlace}
@@ -29,7 +28,6 @@ use Rattle.tables.proofs.ContentLaws.{any_digest, any_revoked}
 use Rattle.store.proofs.ViewLaws.{keys_same, delegations_long, revocations_long, delegation_found, delegation_is, revocation_found, revocation_is}
 use Rattle.tables.specs.declared.answer.Outcome.{Outcome}
 use Rattle.tables.specs.declared.answer.Outcome.TheVariants.{Added}
-use Rattle.std.specs.Prelude.{Result, Ok, Err}
 
 -- ---- settled by what is seen: certificates of kind A, whose content `same` compares
 pub record Alike {A : Type 0} (same : A → A → Bool) (v w : Seen A) : Type 0 where
@@ -49,9 +47,9 @@ module _ (v w : Seen Delegation) (a : Alike same_content v w) where
       go true f = ap held_answer (f refl g)
       go false f = rw (a.keys (delegation_keys g))
 
-  paid_same : (r : Decoded) (d i p : Bytes) → payload_answer r v d i p ≡ payload_answer r w d i p
-  paid_same (reading.Refused r) d i p = refl
-  paid_same (reading.Accepted x t) d i p = accepted_same (delegation_from d i p x)
+  paid_same : (r : Result Found Refusal) (d i p : Bytes) → payload_answer r v d i p ≡ payload_answer r w d i p
+  paid_same (Err r) d i p = refl
+  paid_same (Ok (found x t)) d i p = accepted_same (delegation_from d i p x)
 
   delegation_same : (d i p : Bytes) → delegation_check v d i p ≡ delegation_check w d i p
   unfolding delegation_check
@@ -125,7 +123,7 @@ pub record DelegationAdded (v : Seen Delegation) (d i p : Bytes) : Type 0 where
   pub issuer : length i ≡ key_length
   pub power : Power
   pub tag : Bool
-  pub read : decoded p ≡ reading.Accepted power tag
+  pub read : decoded p ≡ Ok (found power tag)
   pub new : v.held ≡ false
   pub room : v.count < delegation_limit
   pub keys : length v.keys + length (fresh v.keys (delegation_keys (delegation_from d i p power))) ≤ key_limit
@@ -137,9 +135,9 @@ delegation_added_lem v d i p h =
     let b = cond_added (eqb (length i) key_length) _ _ a.1 in
     go (decoded p) refl (eqb-true (length d) digest_length a.0) (eqb-true (length i) key_length b.0) b.1
   where
-    go : (r : Decoded) → decoded p ≡ r → length d ≡ digest_length → length i ≡ key_length → payload_answer r v d i p ≡ (Ok Added) → DelegationAdded v d i p
-    go (reading.Refused r) e x y k = absurd (clash k)
-    go (reading.Accepted w t) e x y k =
+    go : (r : Result Found Refusal) → decoded p ≡ r → length d ≡ digest_length → length i ≡ key_length → payload_answer r v d i p ≡ (Ok Added) → DelegationAdded v d i p
+    go (Err r) e x y k = absurd (clash k)
+    go (Ok (found w t)) e x y k =
         let q = new_added v.held (same_content v.other (delegation_from d i p w)) (cond (ltb v.count delegation_limit) (keys_answer v.keys (delegation_keys (delegation_from d i p w))) (Err FullDelegations)) k in
         let u = cond_added (ltb v.count delegation_limit) (keys_answer v.keys (delegation_keys (delegation_from d i p w))) FullDelegations q.1 in
         record {

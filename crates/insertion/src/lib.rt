@@ -7,7 +7,6 @@ ghost use Rattle.codec.specs.Delegation.{decoded};
 ghost use Rattle.tables.specs.Insertion.{read_rank, is_added, settled, delegation_answer, delegation_added, revocation_answer, revocation_added};
 ghost use Rattle.store.specs.Store.{committed};
 
-use codec::delegation::Decoded;
 use keyline::limits::KEY_LENGTH;
 use places::{DelegationPlace, KeyPlace, RevocationPlace};
 use runs::table;
@@ -21,8 +20,8 @@ fn rank_of(payload: &[u8]) -> u8
     ensures { result ≡ read_rank (decoded payload.now) }
 {
     match codec::delegation::decode(payload) {
-        Decoded::Refused(_) => 0,
-        Decoded::Accepted(power, _) => power_levels::power::rank(power),
+        Err(_) => 0,
+        Ok(found) => found.power.rank(),
     }
 }
 

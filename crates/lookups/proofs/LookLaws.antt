@@ -7,12 +7,11 @@ use mathlib.Core.List.{[]}
 use native.Mathlib.Omega.{arith}
 use lib.ListN.{length, take, drop, length-append}
 use borrow.Author.Tests.{lt-ltb, le-ltb, eq-eqb, ne_eqb}
+use Rattle.std.specs.Prelude.{Ok}
 use Rattle.lent.specs.Bytes.{front}
 use Rattle.power_levels.specs.Power.{level_of, byte_of}
 use Rattle.codec.specs.Delegation.{encoded, encode_answer, after_encode, filled}
 use Rattle.power_levels.specs.declared.power.Power.{Power}
-use Rattle.power_levels.specs.declared.power.Level.TheVariants.{Is}
-use Rattle.codec.specs.declared.delegation.Encoded.TheVariants as written
 use Rattle.keyline.specs.declared.refusal.Refusal.TheVariants.{SmallBuffer, BadLength}
 use Rattle.power_levels.proofs.Levels.{level_byte}
 use Rattle.codec.proofs.Writing.{writes}
@@ -34,8 +33,8 @@ encoded_long : (a s c : Bytes) (b : ℕ) → length a ≡ key_length → length 
 unfolding encoded
 encoded_long a s c b ha hs = simp length-append (omega arith)
 
-answer_fits : (a s c o : Bytes) (b : ℕ) (p : Power) → length a ≡ key_length → length s ≡ key_length → Cited c → level_of b ≡ Is p → payload_length + length c ≤ length o
-    → encode_answer a s b c o ≡ written.Bytes (payload_length + length c)
+answer_fits : (a s c o : Bytes) (b : ℕ) (p : Power) → length a ≡ key_length → length s ≡ key_length → Cited c → level_of b ≡ Ok p → payload_length + length c ≤ length o
+    → encode_answer a s b c o ≡ Ok (payload_length + length c)
 answer_fits a s c o b p ha hs (inl h) hb r =
     writes (length a) (length s) b (length c) (length o) (payload_length + length c) p false
     (record { audience = ha; subject = hs; citation = h; level = hb; count = refl; fits = r })

@@ -26,19 +26,11 @@ fn put_run<'a>(table: &'a [u8], i: usize, out: &mut [u8])
 }
 
 // The byte of a power that is kept by its rank.
+#[tactic(auto, unfolding(tables::specs::Columns::power_of, power_levels::specs::Power::at_rank))]
 fn power_byte(rank: u8) -> u8
     ensures { result ≡ byte_of (power_of rank) }
 {
-    if rank == 0 {
-        return power_levels::power::byte(Power::Relay);
-    }
-    if rank == 1 {
-        return power_levels::power::byte(Power::Read);
-    }
-    if rank == 2 {
-        return power_levels::power::byte(Power::Edit);
-    }
-    power_levels::power::byte(Power::Admin)
+    Power::from_rank(rank).byte()
 }
 
 fn citation_length(cited: bool) -> usize

@@ -4,15 +4,13 @@
 
 ghost use Rattle.std.specs.Prelude.{◌≡◌, length};
 ghost use Rattle.codec.specs.Delegation.{decoded, citation_of, encode_answer, after_encode};
-ghost use Rattle.numbers.specs.Numbers.{decode_number, decode_beside, decode_power, decode_rank, citation_bytes, encode_number, encode_beside, encode_written};
-
-use codec::delegation::{Decoded, Encoded};
-use keyline::limits::DIGEST_LENGTH;
+ghost use Rattle.numbers.specs.Numbers.{decode_number, decode_beside, decode_power, decode_rank, encode_number, encode_beside, encode_written};
 
 // The number of an answer that is no refusal.
 pub const NOT_REFUSED: u8 = 0;
 
 // Reads a payload. Behind the pointers: the value beside a refusal, the power's byte and rank, and the number of citation bytes.
+#[tactic(auto, unfolding(codec::specs::Delegation::citation_of))]
 pub fn decode(
     payload: &[u8],
     beside: &mut usize,
@@ -27,28 +25,21 @@ pub fn decode(
     ensures citation_after { citation.new ≡ length (citation_of payload.now) }
 {
     match codec::delegation::decode(payload) {
-        Decoded::Accepted(p, cited) => {
+        Ok(found) => {
             *beside = 0;
-            *power = power_levels::power::byte(p);
-            *rank = power_levels::power::rank(p);
-            *citation = citation_bytes(cited);
+            *power = found.power.byte();
+            *rank = found.power.rank();
+            *citation = found.citation.len();
             NOT_REFUSED
         }
-        Decoded::Refused(r) => {
-            *beside = keyline::refusal::beside(r);
+        Err(why) => {
+            *beside = why.beside();
             *power = 0;
             *rank = 0;
             *citation = 0;
-            keyline::refusal::number(r)
+            why.number()
         }
     }
-}
-
-// How many bytes of citation follow.
-fn citation_bytes(cited: bool) -> usize
-    ensures { result ≡ citation_bytes cited }
-{
-    if cited { DIGEST_LENGTH } else { 0 }
 }
 
 // Writes a payload to the front of out. Behind the pointers: the number of bytes written, and the value beside a refusal.
@@ -67,15 +58,15 @@ pub fn encode(
     ensures out_after { out.new ≡ after_encode audience.now subject.now power citation.now out.old }
 {
     match codec::delegation::encode(audience, subject, power, citation, out) {
-        Encoded::Bytes(n) => {
+        Ok(n) => {
             *written = n;
             *beside = 0;
             NOT_REFUSED
         }
-        Encoded::Refused(r) => {
+        Err(why) => {
             *written = 0;
-            *beside = keyline::refusal::beside(r);
-            keyline::refusal::number(r)
+            *beside = why.beside();
+            why.number()
         }
     }
 }

@@ -19,6 +19,6 @@ pub(crate) fn byte(word: &[u8], b: u8) {
 }
 
 pub(crate) fn refusal(r: Refusal) {
-    byte(b": refused ", keyline::refusal::number(r));
-    number(b" beside ", keyline::refusal::beside(r));
+    byte(b": refused ", r.number());
+    number(b" beside ", r.beside());
 }

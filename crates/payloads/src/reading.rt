@@ -1,5 +1,4 @@
 // Cases of the reader.
-use codec::delegation::Decoded;
 
 // The first n bytes of the sample.
 pub(crate) fn case(power: u8, tag: u8, n: usize) {
@@ -15,11 +14,11 @@ pub(crate) fn case(power: u8, tag: u8, n: usize) {
 
 fn found(payload: &[u8]) {
     match codec::delegation::decode(payload) {
-        Decoded::Refused(r) => crate::print::refusal(r),
-        Decoded::Accepted(p, cited) => {
-            crate::print::byte(b": accepted ", power_levels::power::byte(p));
-            crate::print::byte(b" of rank ", power_levels::power::rank(p));
-            crate::print::byte(b", cited ", cited as u8);
+        Err(why) => crate::print::refusal(why),
+        Ok(found) => {
+            crate::print::byte(b": accepted ", found.power.byte());
+            crate::print::byte(b" of rank ", found.power.rank());
+            crate::print::byte(b", cited ", (found.citation.len() != 0) as u8);
         }
     }
 }

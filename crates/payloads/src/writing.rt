@@ -1,6 +1,5 @@
 // Cases of the writer.
 use crate::sample::LENGTH;
-use codec::delegation::Encoded;
 use keyline::limits::{KEY_LENGTH, PAYLOAD_LENGTH};
 
 // What the buffer is filled with before the call; no byte of a sample payload has this value.
@@ -36,8 +35,8 @@ fn written(
     let b = crate::sample::cut(s, KEY_LENGTH, subject);
     let c = crate::sample::cut(s, PAYLOAD_LENGTH, citation);
     match codec::delegation::encode(a, b, power, c, &mut out[0..room]) {
-        Encoded::Refused(r) => crate::print::refusal(r),
-        Encoded::Bytes(n) => {
+        Err(why) => crate::print::refusal(why),
+        Ok(n) => {
             crate::print::number(b": wrote ", n);
             let wanted = crate::sample::cut(s, 0, n);
             let front = crate::sample::cut(out, 0, n);

@@ -1,10 +1,9 @@
 -- Power levels, from document 01: "Levels (power.rs): Relay `L` rank 0, Read `R` 1, Edit `E` 2, Admin `A` 3. Order is by rank, never by byte."
 -- `cond t a b` is a where t holds, and b where it does not. Rests on nothing.
-use Rattle.std.specs.Prelude.{ℕ, Bool, true, false, cond, eqb, leb}
+use Rattle.std.specs.Prelude.{ℕ, Bool, true, false, cond, eqb, leb, Result, Ok, Err}
 use Rattle.power_levels.specs.declared.power.Power.{Power}
 use Rattle.power_levels.specs.declared.power.Power.TheVariants.{Relay, Read, Edit, Admin}
-use Rattle.power_levels.specs.declared.power.Level.{Level}
-use Rattle.power_levels.specs.declared.power.Level.TheVariants.{Is, Unknown}
+use Rattle.power_levels.specs.declared.power.InvalidPower.{InvalidPower}
 
 abbrev pub rank_of : Power → ℕ
 rank_of Relay = 0
@@ -23,14 +22,18 @@ byte_of Read = 82
 byte_of Edit = 69
 byte_of Admin = 65
 
--- the level whose byte b is, or Unknown for "a power byte that is none of the four"
-unfoldable pub level_of : ℕ → Level
+-- the level of rank r, or Admin where no level has it
+unfoldable pub at_rank : ℕ → Power
+at_rank r = cond (eqb r (rank_of Relay)) Relay (cond (eqb r (rank_of Read)) Read (cond (eqb r (rank_of Edit)) Edit Admin))
+
+-- the level whose byte b is, or the byte for "a power byte that is none of the four"
+unfoldable pub level_of : ℕ → Result Power InvalidPower
 level_of b =
-    cond (eqb b (byte_of Relay)) (Is Relay)
-    (cond (eqb b (byte_of Read)) (Is Read)
-    (cond (eqb b (byte_of Edit)) (Is Edit)
-    (cond (eqb b (byte_of Admin)) (Is Admin)
-    Unknown)))
+    cond (eqb b (byte_of Relay)) (Ok Relay)
+    (cond (eqb b (byte_of Read)) (Ok Read)
+    (cond (eqb b (byte_of Edit)) (Ok Edit)
+    (cond (eqb b (byte_of Admin)) (Ok Admin)
+    (Err (record { 0 = b })))))
 
 -- p is q or above it
 abbrev pub at_least : Power → Power → Bool

@@ -8,13 +8,12 @@ use native.Mathlib.Omega.{arith}
 use lib.ListN.{length}
 use lib.Dec.{eqb}
 use borrow.Author.Tests.{eq-eqb, eqb-true, eqb-false}
-use Rattle.power_levels.specs.Power.{byte_of, rank_of, level_of}
-use Rattle.codec.specs.Delegation.{decoded, encoded, tag_for}
+use Rattle.power_levels.specs.Power.{byte_of, rank_of}
+use Rattle.std.specs.Prelude.{Ok}
+use Rattle.codec.specs.Delegation.{found, decoded, encoded, tag_for}
 use Rattle.power_levels.specs.declared.power.Power.{Power}
 use Rattle.power_levels.specs.declared.power.Power.TheVariants.{Relay, Read, Edit, Admin}
-use Rattle.power_levels.specs.declared.power.Level.TheVariants.{Is, Unknown}
 use Rattle.codec.proofs.Parts.{parts}
-use Rattle.codec.specs.declared.delegation.Decoded.TheVariants as reading
 use Rattle.runs.specs.Bytes.{Bytes, eq_bytes}
 use Rattle.runs.proofs.BoolLaws.{both_true}
 use Rattle.runs.proofs.ByteLaws.{eq_true, eq_refl}
@@ -105,19 +104,7 @@ content_parts g h p q =
     )
 
 -- an accepted payload is the payload of the delegation that it says
-byte_level : (b : ℕ) (w : Power) → level_of b ≡ Is w → byte_of w ≡ b
-unfolding level_of
-byte_level b w e = go (eqb b 76) (eqb b 82) (eqb b 69) (eqb b 65) refl refl refl refl e
-  where
-    go : (t u v x : Bool) → eqb b 76 ≡ t → eqb b 82 ≡ u → eqb b 69 ≡ v → eqb b 65 ≡ x
-        → cond t (Is Relay) (cond u (Is Read) (cond v (Is Edit) (cond x (Is Admin) Unknown))) ≡ Is w → byte_of w ≡ b
-    go true u v x p q r s e = let f : Relay ≡ w = cc in rw (← f) (sym (eqb-true b 76 p))
-    go false true v x p q r s e = let f : Read ≡ w = cc in rw (← f) (sym (eqb-true b 82 q))
-    go false false true x p q r s e = let f : Edit ≡ w = cc in rw (← f) (sym (eqb-true b 69 r))
-    go false false false true p q r s e = let f : Admin ≡ w = cc in rw (← f) (sym (eqb-true b 65 s))
-    go false false false false p q r s e = let z : ◌≡◌ {A = ℕ} 0 1 = cc in absurd (omega arith)
-
-pub payload_back : (d i p : Bytes) (w : Power) (t : Bool) → decoded p ≡ reading.Accepted w t → payload_of (delegation_from d i p w) ≡ p
+pub payload_back : (d i p : Bytes) (w : Power) (t : Bool) → decoded p ≡ Ok (found w t) → payload_of (delegation_from d i p w) ≡ p
 payload_back d i p w t e = (parts p w t e).whole
 
 -- ---- equal content, as document 01 says it

@@ -6,9 +6,9 @@ use mathlib.Core.Logic.{◌⊎◌, inl, inr}
 use native.Mathlib.Omega.{arith}
 use lib.ListN.{length, take, drop, length-drop}
 use lib.Seq.{length-take-le}
-use Rattle.codec.specs.Delegation.{decoded, citation_of}
+use Rattle.std.specs.Prelude.{Ok}
+use Rattle.codec.specs.Delegation.{found, decoded, citation_of}
 use Rattle.power_levels.specs.declared.power.Power.{Power}
-use Rattle.codec.specs.declared.delegation.Decoded.TheVariants as reading
 use Rattle.codec.proofs.Reading.{sound}
 use Rattle.runs.specs.Bytes.{Bytes}
 use Rattle.keyline.specs.Limits.{key_length, digest_length}
@@ -23,7 +23,7 @@ pub record Parts (p : Bytes) : Type 0 where
   pub subject : length (take key_length (drop key_length p)) ≡ key_length
   pub citation : Cited (citation_of p)
 
-pub parts : (p : Bytes) (w : Power) (t : Bool) → decoded p ≡ reading.Accepted w t → Parts p
+pub parts : (p : Bytes) (w : Power) (t : Bool) → decoded p ≡ Ok (found w t) → Parts p
 unfolding citation_of
 parts p w true e =
     let f : length p ≡ 98 = (sound p w true e).long in

@@ -2,17 +2,15 @@
 -- answer "not added"; identity held with other content: 5; table full: 6 or 7; keys full: 8". Rests on Committed.
 use Rattle.std.specs.Prelude.{ℕ, ◌+◌, Bool, true, false, cond, List, [], ◌∷◌, ◌++◌, length, take, drop, ltb, eqb, Result, Ok, Err}
 use Rattle.power_levels.specs.Power.{rank_of}
-use Rattle.codec.specs.Delegation.{decoded, citation_of}
+use Rattle.codec.specs.Delegation.{Found, found, decoded, citation_of}
 use Rattle.power_levels.specs.declared.power.Power.{Power}
-use Rattle.codec.specs.declared.delegation.Decoded.{Decoded}
-use Rattle.codec.specs.declared.delegation.Decoded.TheVariants as reading
+use Rattle.keyline.specs.declared.refusal.Refusal.{Refusal}
 use Rattle.keyline.specs.declared.refusal.Refusal.TheVariants.{BadLength, Conflict, FullDelegations, FullRevocations, FullKeys}
 use Rattle.runs.specs.Bytes.{Bytes}
 use Rattle.runs.specs.Members.{has, fresh}
 use Rattle.keyline.specs.Limits.{key_length, digest_length, key_limit, delegation_limit, revocation_limit}
 use Rattle.tables.specs.Committed.{Delegation, Revocation, Committed, no_delegation, delegation_digests, revocation_digests, delegation_with, revocation_with, delegation_keys, revocation_keys, keys, same_content, same_revoked}
 use Rattle.tables.specs.declared.answer.Outcome.{Outcome}
-use Rattle.keyline.specs.declared.refusal.Refusal.{Refusal}
 use Rattle.tables.specs.declared.answer.Outcome.TheVariants.{Added, NotAdded}
 
 -- what the checks look at: the held keys, each once; how many certificates of the kind are held; whether one with that digest is, and which
@@ -46,9 +44,9 @@ accepted_answer v g =
 abbrev pub delegation_from : Bytes → Bytes → Bytes → Power → Delegation
 delegation_from d i p w = record { digest = d; issuer = i; audience = take key_length p; subject = take key_length (drop key_length p); power = w; citation = citation_of p }
 
-abbrev pub payload_answer : Decoded → Seen Delegation → Bytes → Bytes → Bytes → Result Outcome Refusal
-payload_answer (reading.Refused r) v d i p = Err r
-payload_answer (reading.Accepted w t) v d i p = accepted_answer v (delegation_from d i p w)
+abbrev pub payload_answer : Result Found Refusal → Seen Delegation → Bytes → Bytes → Bytes → Result Outcome Refusal
+payload_answer (Err r) v d i p = Err r
+payload_answer (Ok (found w t)) v d i p = accepted_answer v (delegation_from d i p w)
 
 unfoldable pub delegation_check : Seen Delegation → Bytes → Bytes → Bytes → Result Outcome Refusal
 delegation_check v d i p =
@@ -60,14 +58,14 @@ abbrev pub delegation_answer : Committed → Bytes → Bytes → Bytes → Resul
 delegation_answer c d i p = delegation_check (seen_delegation c d) d i p
 
 -- the rank of its power
-abbrev pub read_rank : Decoded → ℕ
-read_rank (reading.Refused r) = 0
-read_rank (reading.Accepted w t) = rank_of w
+abbrev pub read_rank : Result Found Refusal → ℕ
+read_rank (Err r) = 0
+read_rank (Ok (found w t)) = rank_of w
 
 -- what is held once the delegation is added
-abbrev pub read_delegation : Decoded → Bytes → Bytes → Bytes → Delegation
-read_delegation (reading.Refused r) d i p = no_delegation
-read_delegation (reading.Accepted w t) d i p = delegation_from d i p w
+abbrev pub read_delegation : Result Found Refusal → Bytes → Bytes → Bytes → Delegation
+read_delegation (Err r) d i p = no_delegation
+read_delegation (Ok (found w t)) d i p = delegation_from d i p w
 
 abbrev pub with_delegation : Committed → Delegation → Committed
 with_delegation c g = record { delegations = c.delegations ++ (g ∷ []); revocations = c.revocations }

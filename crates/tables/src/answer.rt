@@ -7,7 +7,6 @@ ghost use Rattle.tables.specs.Insertion.{is_added, held_answer, accepted_answer,
 ghost use Rattle.tables.specs.Look.{argument, revocation_argument, RowFits, RevocationFits, row_there, revoked_there, delegation_there, revocation_there, room_answer};
 
 use crate::delegations::DelegationRow;
-use codec::delegation::Decoded;
 use keyline::limits::{DELEGATION_LIMIT, DIGEST_LENGTH, KEY_LENGTH, KEY_LIMIT, REVOCATION_LIMIT};
 use keyline::refusal::Refusal;
 use places::{DelegationPlace, KeyPlace, RevocationPlace};
@@ -76,7 +75,7 @@ fn same_content<'a>(
     if !bytes::same_at(keys, s.0, subject) {
         return false;
     }
-    if row.power != power_levels::power::rank(power) {
+    if row.power != power.rank() {
         return false;
     }
     if row.cited {
@@ -137,25 +136,20 @@ pub fn delegation_answer<'a>(
     if issuer.len() != KEY_LENGTH {
         return Err(Refusal::BadLength(issuer.len()));
     }
-    match codec::delegation::decode(payload) {
-        Decoded::Refused(why) => Err(why),
-        Decoded::Accepted(power, _) => {
-            let citation = codec::delegation::citation(payload);
-            accepted_answer(
-                keys,
-                m,
-                citations,
-                n,
-                at,
-                row,
-                issuer,
-                &payload[0..KEY_LENGTH],
-                &payload[KEY_LENGTH..KEY_LENGTH + KEY_LENGTH],
-                power,
-                citation,
-            )
-        }
-    }
+    let found = codec::delegation::decode(payload)?;
+    accepted_answer(
+        keys,
+        m,
+        citations,
+        n,
+        at,
+        row,
+        issuer,
+        found.audience,
+        found.subject,
+        found.power,
+        found.citation,
+    )
 }
 
 // Whether the revocation at a place has this content.

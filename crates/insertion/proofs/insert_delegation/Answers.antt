@@ -13,8 +13,8 @@ use Rattle.tables.specs.Insertion.{Seen, delegation_from, delegation_answer, del
 use Rattle.tables.specs.Look.{delegation_there}
 use Rattle.store.specs.Store.{committed}
 use Rattle.power_levels.specs.declared.power.Power.{Power}
-use Rattle.codec.specs.Delegation.{decoded, citation_of}
-use Rattle.codec.specs.declared.delegation.Decoded.TheVariants.{Accepted}
+use Rattle.std.specs.Prelude.{Ok}
+use Rattle.codec.specs.Delegation.{found, decoded, citation_of}
 use Rattle.tables.proofs.PayloadLaws.{Cited, parts}
 use Rattle.tables.proofs.PayloadLaws as payload
 use Rattle.store.proofs.ViewLaws.{row_fits}
@@ -153,7 +153,7 @@ next c = record {
   version = c.args.store.now.version + 1;
 }
 
-pushed : (c : After-push) → c.args.store.now.delegations.count < delegation_limit → (w : Power) (t : Bool) → decoded c.args.payload.now ≡ Accepted w t → Cited (citation_of c.args.payload.now)
+pushed : (c : After-push) → c.args.store.now.delegations.count < delegation_limit → (w : Power) (t : Bool) → decoded c.args.payload.now ≡ Ok (found w t) → Cited (citation_of c.args.payload.now)
     → DelegationPushed c.args.store.now (next c) (delegation_from c.args.digest.now c.args.issuer.now c.args.payload.now w)
 unfolding next
 pushed c room w t read cited =

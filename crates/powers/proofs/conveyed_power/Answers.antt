@@ -9,7 +9,8 @@ use Rattle.rules.specs.Rows.{level_of}
 use Rattle.rules.proofs.Stores.Places.{conveyed_bytes}
 use Rattle.coverage.specs.Places.{places}
 use Rattle.answers.specs.Answers.{ConveyedPower}
-use Rattle.answers.proofs.Cases.{handed_on, conveyed_small, delegation_at_place, delegation_unheld, delegation_refused, not_held, is_held, with_is}
+use Rattle.keyline.proofs.HandedOn.{handed_on}
+use Rattle.answers.proofs.Cases.{conveyed_small, delegation_at_place, delegation_unheld, delegation_refused, not_held, is_held, with_is}
 use Rattle.powers.proofs.conveyed_power.Goals as goal
 use Rattle.std.specs.Prelude.{Ok, Err}
 

@@ -8,7 +8,8 @@ use Rattle.rules.specs.Rules.{Admin, EffectiveIs}
 use Rattle.store.specs.Store.{committed}
 use Rattle.answers.specs.Graph.{graph}
 use Rattle.answers.proofs.OverBytes.{effective_self, effective_no_subject, effective_no_audience, effective_held}
-use Rattle.answers.proofs.Cases.{handed_on, answer_small, pair_refused, pair_same, pair_unheld, pair_at_lem, at_pair}
+use Rattle.keyline.proofs.HandedOn.{handed_on}
+use Rattle.answers.proofs.Cases.{answer_small, pair_refused, pair_same, pair_unheld, pair_at_lem, at_pair}
 use Rattle.powers.proofs.effective_power.Goals as goal
 
 pub levels-row-requires : goal.levels-row-requires

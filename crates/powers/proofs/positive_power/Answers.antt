@@ -7,7 +7,8 @@ use Rattle.rules.specs.Rules.{Admin, PositiveIs}
 use Rattle.store.specs.Store.{committed}
 use Rattle.answers.specs.Graph.{graph}
 use Rattle.answers.proofs.OverBytes.{positive_self, positive_no_subject, positive_no_audience, positive_held}
-use Rattle.answers.proofs.Cases.{handed_on, answer_small, pair_refused, pair_same, pair_unheld, pair_at_lem, at_pair}
+use Rattle.keyline.proofs.HandedOn.{handed_on}
+use Rattle.answers.proofs.Cases.{answer_small, pair_refused, pair_same, pair_unheld, pair_at_lem, at_pair}
 use Rattle.powers.proofs.positive_power.Goals as goal
 
 pub positive_power-requires : goal.positive_power-requires

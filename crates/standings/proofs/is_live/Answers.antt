@@ -4,7 +4,8 @@ use Rattle.answers.specs.Answers as says
 use Rattle.answers.proofs.Places.{table}
 use Rattle.rules.proofs.Stores.Places.{standing_bytes}
 use Rattle.answers.specs.Answers.{IsLive}
-use Rattle.answers.proofs.Cases.{handed_on, lives, dies_revoked, dies_unsupported, delegation_at_place, delegation_unheld, delegation_refused, not_held, is_held, with_is}
+use Rattle.keyline.proofs.HandedOn.{handed_on}
+use Rattle.answers.proofs.Cases.{lives, dies_revoked, dies_unsupported, delegation_at_place, delegation_unheld, delegation_refused, not_held, is_held, with_is}
 use Rattle.standings.proofs.is_live.Goals as goal
 use mathlib.Core.Path.{ap, ◌∙◌}
 use Rattle.std.specs.Prelude.{Ok, Err}

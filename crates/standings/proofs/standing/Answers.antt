@@ -7,7 +7,8 @@ use Rattle.answers.proofs.Places.{table}
 use Rattle.rules.specs.Rules.{StandingIs}
 use Rattle.rules.proofs.Stores.Places.{standing_bytes}
 use Rattle.answers.specs.Answers.{StandingAnswer, StandingSays}
-use Rattle.answers.proofs.Cases.{handed_on, delegation_at_place, delegation_unheld, delegation_refused, not_held, is_held, with_is}
+use Rattle.keyline.proofs.HandedOn.{handed_on}
+use Rattle.answers.proofs.Cases.{delegation_at_place, delegation_unheld, delegation_refused, not_held, is_held, with_is}
 use Rattle.standings.proofs.standing.Goals as goal
 use Rattle.std.specs.Prelude.{Ok, Err}
 use Rattle.keyline.specs.declared.standing.Standing.{Standing}

@@ -9,7 +9,7 @@ use Rattle.lists.proofs.ChosenLaws.{stand}
 use Rattle.answers.specs.Answers as says
 use Rattle.answers.specs.Answers.{ClosureAnswer}
 use Rattle.answers.proofs.Closures.{no_closure}
-use Rattle.answers.proofs.Cases.{handed_on}
+use Rattle.keyline.proofs.HandedOn.{handed_on}
 use Rattle.answers.proofs.Seeking.{key_refused, key_unheld, key_at}
 use Rattle.answers.proofs.ClosureAnswered.{closure_answer}
 use Rattle.gathered.proofs.closure.closure.Goals as goal

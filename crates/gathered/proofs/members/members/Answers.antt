@@ -8,7 +8,7 @@ use Rattle.store.specs.Store.{committed}
 use Rattle.answers.specs.Answers as says
 use Rattle.answers.specs.Answers.{MembersAnswer}
 use Rattle.answers.proofs.Members.{no_members}
-use Rattle.answers.proofs.Cases.{handed_on}
+use Rattle.keyline.proofs.HandedOn.{handed_on}
 use Rattle.answers.proofs.Seeking.{key_refused, key_unheld, key_at}
 use Rattle.answers.proofs.Counting.{size_le}
 use Rattle.answers.proofs.MembersAnswered.{listable, valued, keys_small, powers_small, members_answered}

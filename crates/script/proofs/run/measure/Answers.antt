@@ -1,7 +1,7 @@
 -- Request by request, to the first that is none.
 use native.Mathlib.Omega.{arith}
 use lib.ListN.{length-drop}
-use Rattle.answers.proofs.Cases.{handed_on}
+use Rattle.keyline.proofs.HandedOn.{handed_on}
 use Rattle.script.proofs.Measuring.{start, by_sizes, step_facts, told, go_on, all_read, no_request}
 use Rattle.script.proofs.run.measure.Goals as goal
 

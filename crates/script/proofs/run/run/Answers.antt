@@ -1,7 +1,7 @@
 -- The checks in their order, then the pass that cannot fail.
 use mathlib.Core.Path.{subst}
 use Rattle.wire.specs.Request.{Script}
-use Rattle.answers.proofs.Cases.{handed_on}
+use Rattle.keyline.proofs.HandedOn.{handed_on}
 use Rattle.script.specs.Run as run
 use Rattle.script.proofs.Performing.{needs_of, fault_of, front_long, run_all}
 use Rattle.script.proofs.run.run.Goals as goal

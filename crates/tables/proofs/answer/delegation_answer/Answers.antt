@@ -1,14 +1,12 @@
 -- The lengths, the payload, and then the rest.
-use mathlib.Core.Path.{◌≡◌, refl, sym, ◌∙◌}
-use native.Mathlib.Omega.{arith}
+use mathlib.Core.Path.{◌≡◌, refl, ◌∙◌}
 use borrow.Author.Tests.{eq-eqb, ne_eqb}
-use Rattle.codec.specs.Delegation.{decoded}
-use Rattle.codec.specs.declared.delegation.Decoded.TheVariants as reading
 use Rattle.tables.specs.Insertion.{delegation_check, accepted_answer, keys_answer, Seen}
 use Rattle.tables.specs.Committed.{Delegation, same_content}
 use Rattle.tables.specs.Look.{argument}
 use Rattle.power_levels.specs.declared.power.Power.{Power}
 use Rattle.runs.specs.Bytes.{Bytes}
+use Rattle.keyline.proofs.HandedOn.{handed_on}
 use Rattle.tables.proofs.PayloadLaws.{parts}
 use Rattle.tables.proofs.answer.delegation_answer.Goals as goal
 
@@ -25,30 +23,21 @@ pub returns-then-issuer-ne-KEY_LENGTH : goal.returns-then-issuer-ne-KEY_LENGTH
 unfolding delegation_check
 returns-then-issuer-ne-KEY_LENGTH c = rw (eq-eqb _ _ c.if-digest-ne-DIGEST_LENGTH.false, ne_eqb _ _ c.if-issuer-ne-KEY_LENGTH.true)
 
-pub slice_bounds-accepted_answer-end : goal.slice_bounds-accepted_answer-end
-slice_bounds-accepted_answer-end c =
-    let p = c.args.payload.now in
-    omega (arith, (parts p c.in-Accepted.power c.in-Accepted.field-1 (sym c.decode.ensures ∙ c.in-Accepted.is)).long)
-
-pub slice_bounds-accepted_answer-end-in-Accepted : goal.slice_bounds-accepted_answer-end-in-Accepted
-slice_bounds-accepted_answer-end-in-Accepted c =
-    let p = c.args.payload.now in
-    omega (arith, (parts p c.in-Accepted.power c.in-Accepted.field-1 (sym c.decode.ensures ∙ c.in-Accepted.is)).long)
-
 pub accepted_answer-requires : goal.accepted_answer-requires
 accepted_answer-requires c =
-    let q = parts c.args.payload.now c.in-Accepted.power c.in-Accepted.field-1 (sym c.decode.ensures ∙ c.in-Accepted.is) in
-    (c.requires.0, c.if-issuer-ne-KEY_LENGTH.false, q.audience, q.subject, c.requires.1)
+    let k = c.in_ok-found.ensures.accepted in
+    let q = parts c.args.payload.now c.in_ok-found.found.power k.has_citation k.accepted in
+    (c.requires.0, c.if-issuer-ne-KEY_LENGTH.false, rw k.audience q.audience, rw k.subject q.subject, c.requires.1)
 
-pub returns-in-Refused : goal.returns-in-Refused
+pub returns-in_err-found : goal.returns-in_err-found
 unfolding delegation_check
-returns-in-Refused c =
-    let e : decoded c.args.payload.now ≡ reading.Refused c.in-Refused.why = sym c.decode.ensures ∙ c.in-Refused.is in
-    rw (eq-eqb _ _ c.if-digest-ne-DIGEST_LENGTH.false, eq-eqb _ _ c.if-issuer-ne-KEY_LENGTH.false, e)
+returns-in_err-found c =
+    rw (handed_on c.from_residual.result c.in_err-found.field-0.0 c.from_residual.ensures.1)
+    (rw (eq-eqb _ _ c.if-digest-ne-DIGEST_LENGTH.false, eq-eqb _ _ c.if-issuer-ne-KEY_LENGTH.false, c.in_err-found.ensures.refused))
 
-pub returns-in-Accepted : goal.returns-in-Accepted
+pub returns : goal.returns
 unfolding delegation_check
-returns-in-Accepted c =
-    let p = c.args.payload.now in
-    let e : decoded p ≡ reading.Accepted c.in-Accepted.power c.in-Accepted.field-1 = sym c.decode.ensures ∙ c.in-Accepted.is in
-    rw (eq-eqb _ _ c.if-digest-ne-DIGEST_LENGTH.false, eq-eqb _ _ c.if-issuer-ne-KEY_LENGTH.false, e) (rw c.citation-citation.ensures at c.accepted_answer.ensures ∙ any_digest _ c.args.digest.now _ _ _ _ _)
+returns c =
+    let k = c.in_ok-found.ensures.accepted in
+    rw (eq-eqb _ _ c.if-digest-ne-DIGEST_LENGTH.false, eq-eqb _ _ c.if-issuer-ne-KEY_LENGTH.false, k.accepted)
+    (rw (k.audience, k.subject, k.citation) at c.accepted_answer.ensures ∙ any_digest _ c.args.digest.now _ _ _ _ _)

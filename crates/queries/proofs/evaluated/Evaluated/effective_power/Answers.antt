@@ -2,7 +2,8 @@
 use mathlib.Core.Path.{ap, ◌∙◌}
 use Rattle.std.specs.Prelude.{Ok}
 use Rattle.answers.proofs.OverBytes.{effective_none}
-use Rattle.answers.proofs.Cases.{handed_on, refused_too, nothing_too}
+use Rattle.keyline.proofs.HandedOn.{handed_on}
+use Rattle.answers.proofs.Cases.{refused_too, nothing_too}
 use Rattle.queries.proofs.evaluated.Evaluated.effective_power.Goals as goal
 
 pub seek_pair-asked-requires : goal.seek_pair-asked-requires
