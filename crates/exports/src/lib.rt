@@ -66,8 +66,8 @@ pub extern "C" fn keyline_run(
         }
         Err(r) => {
             *used = 0;
-            *beside = keyline::refusal::beside(r);
-            keyline::refusal::number(r)
+            *beside = r.beside();
+            r.number()
         }
     }
 }

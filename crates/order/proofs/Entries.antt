@@ -39,7 +39,7 @@ pub record Reads (d i p : Bytes) (g : Delegation) : Type 0 where
   pub issuer : length i ≡ key_length
   pub power : Power
   pub tag : Bool
-  pub read : decoded p ≡ reading.Accepted power tag
+  pub read : decoded p ≡ Ok (found power tag)
   pub is : g ≡ delegation_from d i p power
 
 pub record Names (d i x : Bytes) (r : Revocation) : Type 0 where
@@ -120,7 +120,7 @@ record KnownDelegation (v : Seen Delegation) (d i p : Bytes) : Type 0 where
   pub issuer : length i ≡ key_length
   pub power : Power
   pub tag : Bool
-  pub read : decoded p ≡ reading.Accepted power tag
+  pub read : decoded p ≡ Ok (found power tag)
   pub held : v.held ≡ true
   pub same : same_content v.other (delegation_from d i p power) ≡ true
 
@@ -230,7 +230,7 @@ only_revocations {c} {k = k} (new_revocation {r = q} r n l s) v m = elim (one_mo
 one_reading : {d i p : Bytes} {g h : Delegation} → Reads d i p g → Reads d i p h → g ≡ h
 one_reading {d} {i} {p} r q = let e : r.power ≡ q.power = same_power (sym r.read ∙ q.read) in r.is ∙ ap (delegation_from d i p) e ∙ sym q.is
   where
-    same_power : {w u : Power} {s t : Bool} → reading.Accepted w s ≡ reading.Accepted u t → w ≡ u
+    same_power : {w u : Power} {s t : Bool} → ◌≡◌ {A = Result Found Refusal} (Ok (found w s)) (Ok (found u t)) → w ≡ u
     same_power e = cc
 
 pub one_saying : {k : Certificate} {g h : Delegation} → SaysDel k g → SaysDel k h → g ≡ h

@@ -29,11 +29,9 @@ pub fn valued(first: usize) -> Reply
 fn refused(why: Refusal) -> Reply
     ensures { result ≡ refused why }
 {
-    let number = keyline::refusal::number(why);
-    let first = keyline::refusal::beside(why);
     Reply {
-        number,
-        first,
+        number: why.number(),
+        first: why.beside(),
         second: 0,
     }
 }
@@ -112,10 +110,7 @@ pub fn powered(answer: Result<Option<Power>, Refusal>) -> Reply
     ensures { result ≡ powered answer }
 {
     match answer {
-        Ok(Some(p)) => {
-            let byte = power_levels::power::byte(p);
-            valued(byte as usize)
-        }
+        Ok(Some(power)) => valued(usize::from(power.byte())),
         Ok(None) => valued(0),
         Err(why) => refused(why),
     }
