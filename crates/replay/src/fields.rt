@@ -1,184 +1,115 @@
-// The fields of a line, parted by one space; a line ends at its line end or with the slice. Bytes in hex and decimal numbers.
+// The fields of a line, parted by one space: bytes in lower-case hex, decimal numbers, flags, letters and marks. Nothing is found where a field is
+// missing or of another form.
+use crate::marks;
+use hex::FromHex;
 use keyline::limits::{CITED_LENGTH, KEY_LENGTH, PAYLOAD_LENGTH};
 
-// What no number of a line is: larger than any count that is taken.
-pub(crate) const NO_NUMBER: usize = 1000000;
+// A key, or a digest, which is as long.
+pub(crate) type Run = [u8; KEY_LENGTH];
 
-// The field at a place, or nothing where there are fewer.
-pub(crate) fn field(line: &[u8], k: usize) -> &[u8] {
-    let from = start(line, k);
-    let to = stop(line, from);
-    if from <= to {
-        if to <= line.len() {
-            return &line[from..to];
-        }
-    }
-    &line[0..0]
+// What no number of a line reaches: it is larger than any count that is taken.
+const NUMBER_LIMIT: usize = 1_000_000;
+
+// Those of a line that are not read yet.
+#[derive(Clone, Copy)]
+pub(crate) struct Fields<'a> {
+    rest: Option<&'a [u8]>,
 }
 
-fn start(line: &[u8], k: usize) -> usize {
-    let mut left = k;
-    let mut i = 0;
-    while i < line.len() {
-        if left == 0 {
-            return i;
-        }
-        if line[i] == b'\n' {
-            return line.len();
-        }
-        left = less(left, line[i] == b' ');
-        i += 1;
+impl<'a> Fields<'a> {
+    // Behind the first, which is the line's kind.
+    pub(crate) fn of(line: &'a [u8]) -> Self {
+        let mut fields = Fields { rest: Some(line) };
+        fields.text();
+        fields
     }
-    i
-}
 
-fn less(n: usize, by_one: bool) -> usize {
-    if by_one {
-        if n > 0 {
-            return n - 1;
-        }
+    pub(crate) fn text(&mut self) -> Option<&'a [u8]> {
+        let mut parts = self.rest?.splitn(2, |b| *b == b' ');
+        let text = parts.next();
+        self.rest = parts.next();
+        text
     }
-    n
-}
 
-fn stop(line: &[u8], from: usize) -> usize {
-    let mut i = from;
-    while i < line.len() {
-        if line[i] == b' ' {
-            return i;
-        }
-        if line[i] == b'\n' {
-            return i;
-        }
-        i += 1;
+    pub(crate) fn run(&mut self) -> Option<Run> {
+        run(self.text()?)
     }
-    i
-}
 
-pub(crate) fn count(line: &[u8]) -> usize {
-    let mut n = 1;
-    let mut i = 0;
-    while i < line.len() {
-        if line[i] == b'\n' {
-            return n;
-        }
-        n = crate::bytes::plus(n, line[i] == b' ');
-        i += 1;
+    // In hex, and as long as a payload that the reader takes.
+    pub(crate) fn payload(&mut self) -> Option<&'a [u8]> {
+        self.text().filter(|text| is_payload(text))
     }
-    n
-}
 
-// The bytes that a field in lower-case hex has, where they fill out exactly.
-pub(crate) fn hex(text: &[u8], out: &mut [u8]) -> bool {
-    if text.len() % 2 != 0 {
-        return false;
+    pub(crate) fn number(&mut self) -> Option<usize> {
+        number(self.text()?)
     }
-    if text.len() / 2 != out.len() {
-        return false;
+
+    pub(crate) fn flag(&mut self) -> Option<bool> {
+        match self.text()? {
+            b"0" => Some(false),
+            b"1" => Some(true),
+            _ => None,
+        }
     }
-    if !is_hex(text) {
-        return false;
+
+    // The letter of a power, or the dot of none.
+    pub(crate) fn letter(&mut self) -> Option<u8> {
+        match self.text()? {
+            [b] if is_letter(*b) => Some(*b),
+            _ => None,
+        }
     }
-    let mut i = 0;
-    while i < out.len() {
-        let high = digit(crate::bytes::at(text, 2 * i));
-        let low = digit(crate::bytes::at(text, 2 * i + 1));
-        out[i] = joined(high, low);
-        i += 1;
+
+    // A letter for each of n keys.
+    pub(crate) fn row(&mut self, n: usize) -> Option<&'a [u8]> {
+        self.text().filter(|text| text.len() == n && text.iter().all(|b| is_letter(*b)))
     }
-    true
+
+    // A mark for each of n digests.
+    pub(crate) fn marks(&mut self, n: usize) -> Option<&'a [u8]> {
+        self.text().filter(|text| marks::are_marks(text, n))
+    }
+
+    // That none is left.
+    pub(crate) fn end(&self) -> Option<()> {
+        self.rest.is_none().then_some(())
+    }
 }
 
 fn is_hex(text: &[u8]) -> bool {
-    let mut i = 0;
-    while i < text.len() {
-        if digit(text[i]) > 15 {
-            return false;
-        }
-        i += 1;
-    }
-    true
+    text.iter().all(|b| matches!(b, b'0'..=b'9' | b'a'..=b'f'))
 }
 
-fn digit(b: u8) -> u8 {
-    if b < b'0' {
-        return 16;
+pub(crate) fn run(text: &[u8]) -> Option<Run> {
+    if !is_hex(text) {
+        return None;
     }
-    if b <= b'9' {
-        return b - b'0';
-    }
-    if b < b'a' {
-        return 16;
-    }
-    if b <= b'f' {
-        return b - b'a' + 10;
-    }
-    16
+    <Run as FromHex>::from_hex(text).ok()
 }
 
-fn joined(high: u8, low: u8) -> u8 {
-    if high > 15 {
-        return 0;
+// The bytes of a field in hex, where the room has place for them: they lie at its front.
+pub(crate) fn bytes<'a>(text: &[u8], room: &'a mut [u8]) -> Option<&'a [u8]> {
+    if !is_hex(text) {
+        return None;
     }
-    if low > 15 {
-        return 0;
-    }
-    16 * high + low
+    let bytes = room.get_mut(..text.len() / 2)?;
+    hex::decode_to_slice(text, bytes).ok()?;
+    Some(bytes)
 }
 
-// A decimal number below NO_NUMBER.
-pub(crate) fn number(text: &[u8]) -> usize {
-    if text.len() == 0 {
-        return NO_NUMBER;
-    }
-    let mut n = 0;
-    let mut i = 0;
-    while i < text.len() {
-        n = longer(n, digit(text[i]));
-        i += 1;
-    }
-    n
+fn is_payload(text: &[u8]) -> bool {
+    let n = text.len();
+    (n == 2 * PAYLOAD_LENGTH || n == 2 * CITED_LENGTH) && is_hex(text)
 }
 
-fn longer(n: usize, d: u8) -> usize {
-    if n >= NO_NUMBER / 10 {
-        return NO_NUMBER;
+fn number(text: &[u8]) -> Option<usize> {
+    if !text.iter().all(|b| b.is_ascii_digit()) {
+        return None;
     }
-    if d > 9 {
-        return NO_NUMBER;
-    }
-    10 * n + d as usize
+    let number = std::str::from_utf8(text).ok()?.parse::<usize>().ok()?;
+    (number < NUMBER_LIMIT).then_some(number)
 }
 
-// Whether the field is a key or a digest in hex.
-pub(crate) fn is_run(text: &[u8]) -> bool {
-    if text.len() != 2 * KEY_LENGTH {
-        return false;
-    }
-    is_hex(text)
-}
-
-// Whether the field is in hex and as long as a payload that the reader takes.
-pub(crate) fn is_payload(text: &[u8]) -> bool {
-    if (text.len() != 2 * PAYLOAD_LENGTH) & (text.len() != 2 * CITED_LENGTH) {
-        return false;
-    }
-    is_hex(text)
-}
-
-// Whether the field is one byte and this one.
-pub(crate) fn is(text: &[u8], b: u8) -> bool {
-    if text.len() != 1 {
-        return false;
-    }
-    text[0] == b
-}
-
-pub(crate) fn is_number(text: &[u8]) -> bool {
-    number(text) < NO_NUMBER
-}
-
-// Whether the field is a flag.
-pub(crate) fn is_flag(text: &[u8]) -> bool {
-    is(text, b'0') | is(text, b'1')
+fn is_letter(b: u8) -> bool {
+    matches!(b, b'.' | b'L' | b'R' | b'E' | b'A')
 }

@@ -1,96 +1,86 @@
 // The line p: a payload and what the reader says of it.
-use crate::fields;
+use crate::fields::{Fields, Run};
 use crate::tally::Tally;
-use codec::delegation::Decoded;
-use keyline::limits::DIGEST_LENGTH;
-use keyline::refusal::Refusal;
-use power_levels::power::Power;
+use crate::{fields, kernel};
+use keyline::refusal;
 
 // The longest payload that is taken.
 const ROOM: usize = 2048;
 
-pub(crate) fn line(t: Tally, line: &[u8]) -> Tally {
-    let at = t.line;
-    let text = fields::field(line, 1);
+// What the fields behind the payload say of it.
+#[derive(Clone, Copy)]
+enum Said<'a> {
+    // a refusal's number, and the value beside it
+    Refused(usize, usize),
+    // a power's letter, and the citation
+    Accepted(&'a [u8], Option<Run>),
+}
+
+pub(crate) fn line<R: Print>(tally: &mut Tally<R>, line: &[u8]) {
+    let at = tally.line();
     let mut room = [0u8; ROOM];
-    if fields::is(text, b'-') {
-        return said(t, line, &room[0..0]);
-    }
-    let n = text.len() / 2;
-    if n > ROOM {
-        return t.malformed(at);
-    }
-    if n == 0 {
-        return t.malformed(at);
-    }
-    read(t, line, text, &mut room[0..n])
+    let mut fields = Fields::of(line);
+    let payload = fields.text().and_then(|text| payload(text, &mut room));
+    let (Some(payload), Some(said)) = (payload, Said::read(fields)) else {
+        tally.malformed(at);
+        return;
+    };
+    tally.payload();
+    tally.compare(said.decodes(payload), at, "payload");
+    tally.compare(said.cites(payload), at, "citation");
 }
 
-fn read(t: Tally, line: &[u8], text: &[u8], payload: &mut [u8]) -> Tally {
-    let at = t.line;
-    if !fields::hex(text, payload) {
-        return t.malformed(at);
-    }
-    said(t, line, payload)
-}
-
-fn said(t: Tally, line: &[u8], payload: &[u8]) -> Tally {
-    let at = t.line;
-    if !is_said(line) {
-        return t.malformed(at);
-    }
-    let t = t.payload();
-    let t = t.compared(decodes(line, payload), at, b"payload");
-    t.compared(cites(line, payload), at, b"citation")
-}
-
-// Whether the fields behind the payload have the form of an answer.
-fn is_said(line: &[u8]) -> bool {
-    if fields::is(fields::field(line, 2), b'0') {
-        return is_accepted(line);
-    }
-    if fields::count(line) != 4 {
-        return false;
-    }
-    fields::is_number(fields::field(line, 2)) & fields::is_number(fields::field(line, 3))
-}
-
-fn is_accepted(line: &[u8]) -> bool {
-    if fields::count(line) != 5 {
-        return false;
-    }
-    let citation = fields::field(line, 4);
-    fields::is(citation, b'-') | fields::is_run(citation)
-}
-
-fn decodes(line: &[u8], payload: &[u8]) -> bool {
-    let found = codec::delegation::decode(payload);
-    match found {
-        Decoded::Refused(why) => refuses(line, why),
-        Decoded::Accepted(power, cited) => accepts(line, power, cited),
+// The empty payload is written as a dash.
+fn payload<'a>(text: &[u8], room: &'a mut [u8]) -> Option<&'a [u8]> {
+    match text {
+        b"-" => room.get(..0),
+        b"" => None,
+        _ => fields::bytes(text, room),
     }
 }
 
-fn refuses(line: &[u8], why: Refusal) -> bool {
-    let number = fields::number(fields::field(line, 2)) == keyline::refusal::number(why) as usize;
-    let beside = fields::number(fields::field(line, 3)) == keyline::refusal::beside(why);
-    number & beside
-}
-
-fn accepts(line: &[u8], power: Power, cited: bool) -> bool {
-    let accepted = fields::is(fields::field(line, 2), b'0');
-    let level = fields::is(fields::field(line, 3), power_levels::power::byte(power));
-    let absent = fields::is(fields::field(line, 4), b'-');
-    accepted & level & (absent != cited)
-}
-
-// The citation is handed back as a part of the payload; it is empty where the line has none.
-fn cites(line: &[u8], payload: &[u8]) -> bool {
-    let citation = codec::delegation::citation(payload);
-    let text = fields::field(line, 4);
-    let mut wanted = [0u8; DIGEST_LENGTH];
-    if fields::hex(text, &mut wanted) {
-        return citation == wanted.as_slice();
+// A citation that is absent is written as a dash.
+fn citation(text: &[u8]) -> Option<Option<Run>> {
+    if text == b"-".as_slice() {
+        return Some(None);
     }
-    citation.len() == 0
+    fields::run(text).map(Some)
+}
+
+impl<'a> Said<'a> {
+    // no value, or 0 power citation
+    fn read(fields: Fields<'a>) -> Option<Self> {
+        let mut refused = fields;
+        let mut accepted = fields;
+        if accepted.text()? == b"0".as_slice() {
+            let said = Said::Accepted(accepted.text()?, citation(accepted.text()?)?);
+            accepted.end()?;
+            return Some(said);
+        }
+        let said = Said::Refused(refused.number()?, refused.number()?);
+        refused.end()?;
+        Some(said)
+    }
+
+    fn decodes(&self, payload: &[u8]) -> bool {
+        match (kernel::decode(payload), *self) {
+            (Err(why), Said::Refused(number, beside)) => {
+                refusal::number(why) as usize == number && refusal::beside(why) == beside
+            }
+            (Ok((power, cited)), Said::Accepted(letter, citation)) => {
+                letter == [power_levels::power::byte(power)].as_slice()
+                    && citation.is_some() == cited
+            }
+            _ => false,
+        }
+    }
+
+    // The citation is handed back as a part of the payload; it is empty where the line has none.
+    fn cites(&self, payload: &[u8]) -> bool {
+        let found = codec::delegation::citation(payload);
+        match self {
+            Said::Accepted(_, Some(wanted)) => found == wanted.as_slice(),
+            _ => found.is_empty(),
+        }
+    }
 }

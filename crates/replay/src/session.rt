@@ -1,148 +1,177 @@
-// What stands between lines, but for the store: the counts, and where in the format the next line lies. The store is passed on only where a
-// line asks for it, because passing it is what costs.
+// What stands between lines: the counts, the store, and where in the format the next line lies.
+use crate::block::Fault;
+use crate::fields::Fields;
+use crate::frame::Kept;
+use crate::kernel::Store;
 use crate::tally::Tally;
-use crate::{bytes, fields, frame, payload, tally};
+use crate::{block, fields, payload};
+use keyline::limits::CITED_LENGTH;
+use keyline::refusal::Refusal;
+use std::alloc::Global;
+use std::{io, mem};
 
-// No store yet.
-const START: u8 = 0;
-
-// Among the insertions of a store.
-const STORE: u8 = 1;
-
-// Between a and z.
-const BLOCK: u8 = 2;
-
-// Behind a malformed line, until the next store.
-const SKIP: u8 = 3;
-
-// What a line asks of the store: nothing, a new one, an insertion, or the answers of the block that it closes.
-pub(crate) const NOTHING: u8 = 0;
-
-pub(crate) const FRESH: u8 = 1;
-
-pub(crate) const DELEGATION: u8 = 2;
-
-pub(crate) const REVOCATION: u8 = 3;
-
-pub(crate) const ANSWERS: u8 = 4;
-
-#[derive(Clone, Copy)]
-pub(crate) struct Session {
-    pub tally: Tally,
-    mode: u8,
-    // the lines of the block that are kept
-    pub lines: usize,
-    pub due: u8,
+#[derive(Drop)]
+enum Mode {
+    // No store yet.
+    Start,
+    // Among the insertions of a store.
+    Store,
+    // Between a and z.
+    Block(Kept),
+    // Behind a malformed line, until the next store.
+    Skip,
 }
 
-fn made(tally: Tally, mode: u8, lines: usize, due: u8) -> Session {
-    Session {
-        tally,
-        mode,
-        lines,
-        due,
+#[derive(Drop)]
+pub(crate) struct Session<R: Print> {
+    alloc: Global,
+    tally: Tally<R>,
+    store: Store,
+    mode: Mode,
+}
+
+impl<R: Print> Session<R> {
+    pub(crate) fn new(alloc: Global, rt: R) -> Self {
+        let tally = Tally::new(rt);
+        let store = Store::new();
+        Session {
+            alloc,
+            tally,
+            store,
+            mode: Mode::Start,
+        }
+    }
+
+    // A block that the input leaves open is malformed.
+    pub(crate) fn report(&mut self) {
+        if let Mode::Block(_) = self.mode {
+            self.tally.next_line();
+            self.malformed();
+        }
+        self.tally.report();
+    }
+
+    pub(crate) fn read(&mut self, line: &[u8]) -> io::Result<()> {
+        self.tally.next_line();
+        let mode = mem::replace(&mut self.mode, Mode::Skip);
+        self.mode = match mode {
+            Mode::Block(kept) => self.inside(kept, line)?,
+            mode => self.outside(mode, line)?,
+        };
+        Ok(())
+    }
+
+    // The line, and what is behind it until the next store.
+    fn malformed(&mut self) -> Mode {
+        let line = self.tally.line();
+        self.tally.malformed(line);
+        Mode::Skip
+    }
+
+    // A line between a and z. The next store ends a block that was left open, which is malformed.
+    fn inside(&mut self, mut kept: Kept, line: &[u8]) -> io::Result<Mode> {
+        if line == b"z".as_slice() {
+            return self.closed(&kept);
+        }
+        if line.first() == Some(&b's') {
+            self.malformed();
+            return Ok(self.named(line));
+        }
+        let number = self.tally.line();
+        if kept.keep(self.alloc, number, line)? {
+            return Ok(Mode::Block(kept));
+        }
+        self.tally.too_large(number);
+        Ok(Mode::Skip)
+    }
+
+    fn closed(&mut self, kept: &Kept) -> io::Result<Mode> {
+        match block::check(self.alloc, &self.store, kept, &mut self.tally) {
+            Ok(()) => Ok(Mode::Store),
+            Err(Fault::Malformed) => Ok(Mode::Skip),
+            Err(Fault::Memory(e)) => Err(e.into()),
+        }
+    }
+
+    fn outside(&mut self, mode: Mode, line: &[u8]) -> io::Result<Mode> {
+        match (line.first(), mode) {
+            (Some(b's'), _) => Ok(self.named(line)),
+            (Some(b'p'), mode) => {
+                payload::line(&mut self.tally, line);
+                Ok(mode)
+            }
+            (_, Mode::Skip) => Ok(Mode::Skip),
+            (Some(b'd'), Mode::Store) => Ok(self.delegation(line)),
+            (Some(b'r'), Mode::Store) => Ok(self.revocation(line)),
+            (Some(b'a'), Mode::Store) => self.opened(line),
+            _ => Ok(self.malformed()),
+        }
+    }
+
+    // s name
+    fn named(&mut self, line: &[u8]) -> Mode {
+        let mut fields = Fields::of(line);
+        if fields.text().is_none() || fields.end().is_none() {
+            return self.malformed();
+        }
+        self.tally.store();
+        self.store = Store::new();
+        Mode::Store
+    }
+
+    // a version len nd nr
+    fn opened(&mut self, line: &[u8]) -> io::Result<Mode> {
+        match Kept::open(self.alloc, self.tally.line(), line)? {
+            Some(kept) => Ok(Mode::Block(kept)),
+            None => Ok(self.malformed()),
+        }
+    }
+
+    // d digest issuer payload added
+    fn delegation(&mut self, line: &[u8]) -> Mode {
+        let mut room = [0u8; CITED_LENGTH];
+        match delegation(&mut self.store, line, &mut room) {
+            Some(same) => self.inserted(same),
+            None => self.malformed(),
+        }
+    }
+
+    // r digest issuer revoked added
+    fn revocation(&mut self, line: &[u8]) -> Mode {
+        match revocation(&mut self.store, line) {
+            Some(same) => self.inserted(same),
+            None => self.malformed(),
+        }
+    }
+
+    fn inserted(&mut self, same: bool) -> Mode {
+        let line = self.tally.line();
+        self.tally.compare(same, line, "insertion");
+        Mode::Store
     }
 }
 
-pub(crate) fn new() -> Session {
-    made(tally::new(), START, 0, NOTHING)
+// Whether the insertion of a line answers as the line says.
+fn delegation(store: &mut Store, line: &[u8], room: &mut [u8]) -> Option<bool> {
+    let mut fields = Fields::of(line);
+    let digest = fields.run()?;
+    let issuer = fields.run()?;
+    let payload = fields::bytes(fields.payload()?, room)?;
+    let added = fields.flag()?;
+    fields.end()?;
+    Some(says(added, store.insert_delegation(&digest, &issuer, payload)))
 }
 
-// A block that the input leaves open is malformed.
-pub(crate) fn report(s: Session) {
-    let t = s.tally;
-    if s.mode == BLOCK {
-        let line = std::num::wrapping_add_u64(t.line, 1);
-        t.malformed(line).report();
-        return;
-    }
-    t.report();
+fn revocation(store: &mut Store, line: &[u8]) -> Option<bool> {
+    let mut fields = Fields::of(line);
+    let digest = fields.run()?;
+    let issuer = fields.run()?;
+    let revoked = fields.run()?;
+    let added = fields.flag()?;
+    fields.end()?;
+    Some(says(added, store.insert_revocation(&digest, &issuer, &revoked)))
 }
 
-pub(crate) fn started(t: Tally) -> Session {
-    made(t, STORE, 0, NOTHING)
-}
-
-// Goes on with the store, or behind what is malformed with the next one.
-pub(crate) fn resumed(t: Tally) -> Session {
-    if t.bad {
-        return made(t, SKIP, 0, NOTHING);
-    }
-    started(t)
-}
-
-pub(crate) fn malformed(t: Tally) -> Session {
-    let line = t.line;
-    made(t.malformed(line), SKIP, 0, NOTHING)
-}
-
-// Takes a line, and says what it asks of the store.
-pub(crate) fn read(s: Session, line: &[u8], text: &mut [u8]) -> Session {
-    let t = s.tally.next_line();
-    if s.mode == BLOCK {
-        return inside(t, s.lines, line, text);
-    }
-    outside(t, s.mode, line, text)
-}
-
-// A line between a and z. The next store ends a block that was left open, which is malformed.
-fn inside(t: Tally, lines: usize, line: &[u8], text: &mut [u8]) -> Session {
-    if line == b"z".as_slice() {
-        return made(t, STORE, lines, ANSWERS);
-    }
-    if bytes::at(line, 0) == b's' {
-        let at = t.line;
-        return named(t.malformed(at), line);
-    }
-    if frame::keep(text, lines, line) {
-        return made(t, BLOCK, std::num::wrapping_add_usize(lines, 1), NOTHING);
-    }
-    let at = t.line;
-    made(t.too_large(at), SKIP, 0, NOTHING)
-}
-
-fn outside(t: Tally, mode: u8, line: &[u8], text: &mut [u8]) -> Session {
-    let kind = bytes::at(line, 0);
-    if kind == b's' {
-        return named(t, line);
-    }
-    if kind == b'p' {
-        return made(payload::line(t, line), mode, 0, NOTHING);
-    }
-    if mode == SKIP {
-        return made(t, SKIP, 0, NOTHING);
-    }
-    if mode == STORE {
-        return among_insertions(t, kind, line, text);
-    }
-    malformed(t)
-}
-
-// s name
-fn named(t: Tally, line: &[u8]) -> Session {
-    if fields::count(line) != 2 {
-        return malformed(t);
-    }
-    made(t.store(), STORE, 0, FRESH)
-}
-
-fn among_insertions(t: Tally, kind: u8, line: &[u8], text: &mut [u8]) -> Session {
-    if kind == b'd' {
-        return made(t, STORE, 0, DELEGATION);
-    }
-    if kind == b'r' {
-        return made(t, STORE, 0, REVOCATION);
-    }
-    if kind == b'a' {
-        return opened(t, line, text);
-    }
-    malformed(t)
-}
-
-// a version len nd nr
-fn opened(t: Tally, line: &[u8], text: &mut [u8]) -> Session {
-    if frame::keep(text, 0, line) {
-        return made(t, BLOCK, 1, NOTHING);
-    }
-    malformed(t)
+fn says(added: bool, answer: Result<bool, Refusal>) -> bool {
+    answer.ok() == Some(added)
 }

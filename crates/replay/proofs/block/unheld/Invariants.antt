@@ -1,9 +1,0 @@
--- `unheld` asks about each N line once.
-use Rattle.std.proofs.Common.{◌-◌}
-use Rattle.replay.proofs.block.unheld.Given as goal
-
-abbrev pub invariant-loop-i : goal.invariant-loop-i
-invariant-loop-i l = Unit {0}
-
-abbrev pub decreases-loop-i : goal.decreases-loop-i
-decreases-loop-i l = l.f.tail - l.i

@@ -1,9 +1,0 @@
--- `hex` writes each byte once; the two digits of each are there, because the lengths were tested.
-use Rattle.std.proofs.Common.{◌≡◌, ◌-◌, length}
-use Rattle.replay.proofs.fields.hex.Given as goal
-
-abbrev pub invariant-loop-i : goal.invariant-loop-i
-invariant-loop-i l = length l.out ≡ length l.initial.out
-
-abbrev pub decreases-loop-i : goal.decreases-loop-i
-decreases-loop-i l = length l.initial.out - l.i

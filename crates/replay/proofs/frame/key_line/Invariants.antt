@@ -1,9 +1,0 @@
--- `key_line` passes each line once.
-use Rattle.std.proofs.Common.{◌-◌}
-use Rattle.replay.proofs.frame.key_line.Given as goal
-
-abbrev pub invariant-loop-i : goal.invariant-loop-i
-invariant-loop-i l = Unit {0}
-
-abbrev pub decreases-loop-i : goal.decreases-loop-i
-decreases-loop-i l = l.f.lines - l.i

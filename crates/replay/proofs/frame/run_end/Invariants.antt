@@ -1,9 +1,0 @@
--- `run_end` passes each line once.
-use Rattle.std.proofs.Common.{◌-◌}
-use Rattle.replay.proofs.frame.run_end.Given as goal
-
-abbrev pub invariant-loop-i : goal.invariant-loop-i
-invariant-loop-i l = Unit {0}
-
-abbrev pub decreases-loop-i : goal.decreases-loop-i
-decreases-loop-i l = l.end - l.i

@@ -1,9 +1,0 @@
--- `is_row` looks at each letter once.
-use Rattle.std.proofs.Common.{◌-◌, length}
-use Rattle.replay.proofs.keys.is_row.Given as goal
-
-abbrev pub invariant-loop-j : goal.invariant-loop-j
-invariant-loop-j l = Unit {0}
-
-abbrev pub decreases-loop-j : goal.decreases-loop-j
-decreases-loop-j l = length l.text - l.j

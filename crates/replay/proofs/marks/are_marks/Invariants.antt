@@ -1,9 +1,0 @@
--- `are_marks` looks at each mark once.
-use Rattle.std.proofs.Common.{◌-◌, length}
-use Rattle.replay.proofs.marks.are_marks.Given as goal
-
-abbrev pub invariant-loop-i : goal.invariant-loop-i
-invariant-loop-i l = Unit {0}
-
-abbrev pub decreases-loop-i : goal.decreases-loop-i
-decreases-loop-i l = length l.text - l.i
