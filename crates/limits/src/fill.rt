@@ -1,9 +1,8 @@
 // Sets filled with certificates of one kind, each made from its number.
-ghost use Rattle.keyline_memory.specs.State.{GoodState};
 
-use crate::make;
-use crate::make::Given;
+use crate::certificate::{Certificate, delegation, reading, revocation};
 use keyline_memory::state::State;
+use std::ops::Range;
 
 #[derive(Clone, Copy)]
 pub(crate) enum Kind {
@@ -15,96 +14,50 @@ pub(crate) enum Kind {
     Ring,
     // One audience and one subject, and a citation that tells them apart.
     Parallel,
-    // Revocations by key 0, of digest d + 64.
+    // Revocations by key 0, of digest n + 64.
     Each,
     // Revocations by key 0, of digest 7.
     Named,
 }
 
-fn cited(d: u8, citation: u8) -> Given {
-    Given {
-        digest: d,
-        issuer: 0,
-        audience: 1,
-        subject: 0,
-        power: b'R',
-        citation,
+impl Kind {
+    fn certificate(self, n: u8) -> Certificate {
+        match self {
+            Kind::Star => reading(n, 0, n.saturating_add(1), 0),
+            Kind::Grid => reading(n, 0, 4 + n % 32, n / 32),
+            Kind::Ring => {
+                let key = n % 64;
+                let power = if n < 64 { b'R' } else { b'E' };
+                delegation(n, key, (key + 1) % 64, key, power, None)
+            }
+            Kind::Parallel => delegation(n, 0, 1, 0, b'R', Some(n.saturating_add(1))),
+            Kind::Each => revocation(n, 0, n.saturating_add(64)),
+            Kind::Named => revocation(n, 0, 7),
+        }
     }
 }
 
-// The delegation with number d of the ring: the second time round it grants Edit.
-fn ring(d: u8) -> Given {
-    let i = d % 64;
-    let a = (i + 1) % 64;
-    if d < 64 {
-        return make::reading(d, i, a, i);
-    }
-    Given {
-        digest: d,
-        issuer: i,
-        audience: a,
-        subject: i,
-        power: b'E',
-        citation: 0,
-    }
-}
-
-// A delegation, or a revocation by key 0 of the digest that it holds.
-#[derive(Clone, Copy)]
-enum Made {
-    Delegation(Given),
-    Revocation(u8),
-}
-
-// The one with number d; past 127 there is none of its own.
-fn numbered(kind: Kind, d: u8) -> Made {
-    if 128 <= d {
-        return Made::Revocation(d);
-    }
-    match kind {
-        Kind::Star => Made::Delegation(make::reading(d, 0, d + 1, 0)),
-        Kind::Grid => Made::Delegation(make::reading(d, 0, 4 + d % 32, d / 32)),
-        Kind::Ring => Made::Delegation(ring(d)),
-        Kind::Parallel => Made::Delegation(cited(d, d + 1)),
-        Kind::Each => Made::Revocation(d + 64),
-        Kind::Named => Made::Revocation(7),
-    }
-}
-
-fn one(s: State, kind: Kind, d: u8) -> State
-    requires { GoodState s }
-    ensures { GoodState result }
+// Puts the certificates with those numbers into the set.
+pub(crate) fn fill(s: &mut State, kind: Kind, numbers: Range<u8>)
 {
-    match numbered(kind, d) {
-        Made::Delegation(g) => make::delegated(s, g),
-        Made::Revocation(of) => make::revoked(s, d, 0, of),
+    for n in numbers {
+        let certificate = kind.certificate(n);
+        certificate.insert(s, certificate.lengths());
     }
-}
-
-// Certificates a to b - 1 of the kind.
-pub(crate) fn fill(s: State, kind: Kind, a: u8, b: u8) -> State
-    requires { GoodState s }
-    ensures { GoodState result }
-{
-    let mut t = s;
-    let mut d = a;
-    while d < b {
-        t = one(t, kind, d);
-        d += 1;
-    }
-    t
 }
 
 // The first n of the kind, in a new set.
 pub(crate) fn only(kind: Kind, n: u8) -> State
-    ensures { GoodState result }
 {
-    fill(keyline_memory::state::new(), kind, 0, n)
+    let mut s = State::new();
+    fill(&mut s, kind, 0..n);
+    s
 }
 
 // 64 keys, 128 delegations and 64 revocations.
 pub(crate) fn full() -> State
-    ensures { GoodState result }
 {
-    fill(only(Kind::Ring, 128), Kind::Each, 0, 64)
+    let mut s = only(Kind::Ring, 128);
+    fill(&mut s, Kind::Each, 0..64);
+    s
 }

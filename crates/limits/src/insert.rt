@@ -1,66 +1,52 @@
 // Insertions, each printed with its answer and with what the set counts afterwards.
-ghost use Rattle.keyline_memory.specs.State.{GoodState};
 
-use crate::make::Given;
-use crate::{make, say};
-use keyline_memory::state::{Inserted, State};
+use crate::answered::Answered;
+use crate::certificate::Certificate;
+use keyline_memory::state::State;
+use std::io;
 
-fn say_counts(len: usize, version: u64) {
-    say::number(b", len ", len);
-    say::number(b", version ", version as usize);
-    say::text(b"\n");
-}
-
-pub(crate) fn outcome(r: Inserted)
-    requires { GoodState r.state }
+// Without a line.
+pub(crate) fn all(s: &mut State, certificates: &[Certificate])
 {
-    let a = r.answer;
-    say::answer(a);
-    let s = r.state;
-    say_counts(s.len(), s.version());
+    for certificate in certificates {
+        certificate.insert(s, certificate.lengths());
+    }
 }
 
-// Digest, then issuer, audience and subject, then power and citation.
-fn say_given(g: Given) {
-    say::byte(b"  delegation ", g.digest);
-    say::byte(b", keys ", g.issuer);
-    say::byte(b" ", g.audience);
-    say::byte(b" ", g.subject);
-    say::byte(b", power ", g.power);
-    say::byte(b", citation ", g.citation);
-}
-
-// The set afterwards is handed back.
-pub(crate) fn given(s: State, g: Given) -> State
-    requires { GoodState s }
-    ensures { GoodState result }
+// Behind what was inserted: the answer, and what the set counts after it.
+pub(crate) fn outcome(rt: &impl Print, answer: Answered, s: &State) -> io::Result<()>
 {
-    say_given(g);
-    let r = make::delegate(s, g);
-    outcome(r);
-    r.state
+    let len = s.len();
+    let version = s.version();
+    println!(rt; ": {answer}, len {len}, version {version}")
 }
 
-pub(crate) fn delegation(s: State, digest: u8, issuer: u8, audience: u8, subject: u8) -> State
-    requires { GoodState s }
-    ensures { GoodState result }
+fn one(rt: &impl Print, s: &mut State, certificate: &Certificate) -> io::Result<()>
 {
-    given(s, make::reading(digest, issuer, audience, subject))
+    print!(rt; "  {certificate}")?;
+    let answer = certificate.insert(s, certificate.lengths());
+    outcome(rt, answer, s)
 }
 
-// Digest, issuer and the digest revoked.
-fn say_revocation(digest: u8, issuer: u8, revoked: u8) {
-    say::byte(b"  revocation ", digest);
-    say::byte(b", key ", issuer);
-    say::byte(b", of ", revoked);
-}
-
-pub(crate) fn revocation(s: State, digest: u8, issuer: u8, revoked: u8) -> State
-    requires { GoodState s }
-    ensures { GoodState result }
+// One after the other.
+pub(crate) fn in_turn(
+    rt: &impl Print,
+    s: &mut State,
+    certificates: &[Certificate],
+) -> io::Result<()>
 {
-    say_revocation(digest, issuer, revoked);
-    let r = make::revoke(s, digest, issuer, revoked);
-    outcome(r);
-    r.state
+    for certificate in certificates {
+        one(rt, s, certificate)?;
+    }
+    Ok(())
+}
+
+// Each into the same set, which is left as it was.
+pub(crate) fn each(rt: &impl Print, s: &State, certificates: &[Certificate]) -> io::Result<()>
+{
+    for certificate in certificates {
+        let mut after = *s;
+        one(rt, &mut after, certificate)?;
+    }
+    Ok(())
 }

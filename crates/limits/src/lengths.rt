@@ -1,248 +1,166 @@
 // Every argument of every call at 0, 31 and 33 bytes: 1 with its length, "the first in the order named", and before 9.
 // In the small set each call with its arguments at 32 bytes has an answer other than a refusal; the lists would have items.
-ghost use Rattle.keyline_memory.specs.State.{GoodState};
 ghost use Rattle.queries.specs.Evaluated.{GoodEvaluated};
 
-use crate::{asked, insert, lists_of, make, parts, say, small};
+use crate::argument::Argument;
+use crate::certificate::{Certificate, revocation};
+use crate::{asked, insert, lists_of, parts, small};
 use keyline_memory::state::State;
 use queries::evaluated::Evaluated;
+use std::io;
 
-fn lengths(word: &[u8], digest: usize, issuer: usize, third: usize) {
-    say::number(word, digest);
-    say::number(b" ", issuer);
-    say::number(b" ", third);
+// No key and no digest has one of these.
+const WRONG: [usize; 3] = [0, 31, 33];
+
+// The lengths of two keys: wrong one at a time, and both, where the first one is refused.
+const PAIRS: [(usize, usize); 7] = [
+    (0, 32),
+    (31, 32),
+    (33, 32),
+    (32, 0),
+    (32, 31),
+    (32, 33),
+    (31, 33),
+];
+
+// Digest, issuer and payload. The payload's length is no refusal 1, and is looked at last.
+const DELEGATIONS: [[usize; 3]; 12] = [
+    [0, 32, 98],
+    [31, 32, 98],
+    [33, 32, 98],
+    [32, 0, 98],
+    [32, 31, 98],
+    [32, 33, 98],
+    [31, 33, 0],
+    [32, 33, 0],
+    [32, 32, 0],
+    [32, 32, 65],
+    [32, 32, 97],
+    [32, 32, 98],
+];
+
+// Digest, issuer and the digest revoked.
+const REVOCATIONS: [[usize; 3]; 12] = [
+    [0, 32, 32],
+    [31, 32, 32],
+    [33, 32, 32],
+    [32, 0, 32],
+    [32, 31, 32],
+    [32, 33, 32],
+    [32, 32, 0],
+    [32, 32, 31],
+    [32, 32, 33],
+    [31, 33, 0],
+    [32, 33, 0],
+    [32, 32, 32],
+];
+
+// Digest 40 is held as a delegation and as a revocation, with other content, and no table has room: lengths and payload come first.
+const DELEGATIONS_WHEN_FULL: [[usize; 3]; 4] = [
+    [31, 33, 0],
+    [32, 33, 0],
+    [32, 32, 97],
+    [32, 32, 98],
+];
+
+const REVOCATIONS_WHEN_FULL: [[usize; 3]; 4] = [
+    [31, 33, 0],
+    [32, 33, 0],
+    [32, 32, 0],
+    [32, 32, 32],
+];
+
+// A delegation of digest 40, which the small set does not hold, by key 1.
+fn delegation() -> Certificate {
+    Certificate {
+        digest: 40,
+        issuer: 1,
+        ..small::cited()
+    }
 }
 
-// An insertion of so many bytes each; none of the digests is held.
-fn delegation(s: State, digest: usize, issuer: usize, payload: usize)
-    requires { GoodState s }
+// Each into the same set.
+fn insertions(
+    rt: &impl Print,
+    s: &State,
+    certificate: &Certificate,
+    lengths: &[[usize; 3]],
+) -> io::Result<()>
 {
-    let d = make::run(40);
-    let i = make::run(1);
-    let p = make::payload(small::cited());
-    lengths(b"  insert_delegation ", digest, issuer, payload);
-    insert::outcome(s.insert_delegation(
-        make::cut(&d, digest),
-        make::cut(&i, issuer),
-        make::cut(&p, payload),
-    ));
+    let kind = certificate.content.kind();
+    for [digest, issuer, third] in lengths {
+        let mut after = *s;
+        let answer = certificate.insert(&mut after, [*digest, *issuer, *third]);
+        print!(rt; "  insert_{kind} {digest} {issuer} {third}")?;
+        insert::outcome(rt, answer, &after)?;
+    }
+    Ok(())
 }
 
-fn revocation(s: State, digest: usize, issuer: usize, revoked: usize)
-    requires { GoodState s }
+fn questions(rt: &impl Print, s: &State) -> io::Result<()>
 {
-    let d = make::run(40);
-    let i = make::run(1);
-    let x = make::run(41);
-    lengths(b"  insert_revocation ", digest, issuer, revoked);
-    insert::outcome(s.insert_revocation(
-        make::cut(&d, digest),
-        make::cut(&i, issuer),
-        make::cut(&x, revoked),
-    ));
-}
-
-fn delegations(s: State)
-    requires { GoodState s }
-{
-    delegation(s, 0, 32, 98);
-    delegation(s, 31, 32, 98);
-    delegation(s, 33, 32, 98);
-    delegation(s, 32, 0, 98);
-    delegation(s, 32, 31, 98);
-    delegation(s, 32, 33, 98);
-}
-
-// The payload's length is no refusal 1, and is looked at last.
-fn delegation_order(s: State)
-    requires { GoodState s }
-{
-    delegation(s, 31, 33, 0);
-    delegation(s, 32, 33, 0);
-    delegation(s, 32, 32, 0);
-    delegation(s, 32, 32, 65);
-    delegation(s, 32, 32, 97);
-    delegation(s, 32, 32, 98);
-}
-
-fn revocations(s: State)
-    requires { GoodState s }
-{
-    revocation(s, 0, 32, 32);
-    revocation(s, 31, 32, 32);
-    revocation(s, 33, 32, 32);
-    revocation(s, 32, 0, 32);
-    revocation(s, 32, 31, 32);
-    revocation(s, 32, 33, 32);
-}
-
-fn revocation_order(s: State)
-    requires { GoodState s }
-{
-    revocation(s, 32, 32, 0);
-    revocation(s, 32, 32, 31);
-    revocation(s, 32, 32, 33);
-    revocation(s, 31, 33, 0);
-    revocation(s, 32, 33, 0);
-    revocation(s, 32, 32, 32);
-}
-
-fn held(s: State)
-    requires { GoodState s }
-{
-    asked::contains(s, 10, 0);
-    asked::contains(s, 10, 31);
-    asked::contains(s, 10, 33);
-    asked::contains(s, 10, 32);
-    asked::contains(s, 20, 32);
-}
-
-fn one(e: Evaluated)
-    requires { GoodEvaluated e }
-{
-    asked::one(e, 10, 0);
-    asked::one(e, 10, 31);
-    asked::one(e, 10, 33);
-    asked::one(e, 10, 32);
-}
-
-fn powers(e: Evaluated)
-    requires { GoodEvaluated e }
-{
-    asked::powers(e, 1, 0, 2, 32);
-    asked::powers(e, 1, 31, 2, 32);
-    asked::powers(e, 1, 33, 2, 32);
-    asked::powers(e, 1, 32, 2, 0);
-    asked::powers(e, 1, 32, 2, 31);
-    asked::powers(e, 1, 32, 2, 33);
-}
-
-// Also where subject and audience are the same bytes, of a length that no key has.
-fn powers_order(e: Evaluated)
-    requires { GoodEvaluated e }
-{
-    asked::powers(e, 1, 31, 2, 33);
-    asked::powers(e, 1, 31, 1, 31);
-    asked::powers(e, 1, 32, 2, 32);
-}
-
-fn delegations_to(s: State, n: usize)
-    requires { GoodState s }
-{
-    lists_of::delegations_to(s, 0, 32, n);
-    lists_of::delegations_to(s, 31, 32, n);
-    lists_of::delegations_to(s, 33, 32, n);
-    lists_of::delegations_to(s, 32, 0, n);
-    lists_of::delegations_to(s, 32, 31, n);
-    lists_of::delegations_to(s, 32, 33, n);
-    lists_of::delegations_to(s, 31, 33, n);
+    for (digest, length) in [(10, 0), (10, 31), (10, 33), (10, 32), (20, 32)] {
+        asked::contains(rt, s, &Argument::of(digest, length))?;
+    }
+    let e = s.evaluate();
+    for length in [0, 31, 33, 32] {
+        asked::delegation(rt, &e, &Argument::of(10, length))?;
+    }
+    for (subject, audience) in PAIRS {
+        asked::powers(
+            rt,
+            &e,
+            &Argument::of(1, subject),
+            &Argument::of(2, audience),
+        )?;
+    }
+    // Also where subject and audience are the same bytes, of a length that no key has.
+    asked::powers(rt, &e, &Argument::of(1, 31), &Argument::of(1, 31))?;
+    asked::powers(rt, &e, &Argument::whole(1), &Argument::whole(2))
 }
 
 // With room for nothing, and with room for all.
-fn revocations_of(s: State, n: usize)
-    requires { GoodState s }
+fn into_room(rt: &impl Print, s: &State, room: usize) -> io::Result<()>
 {
-    lists_of::revocations_of(s, 11, 0, n);
-    lists_of::revocations_of(s, 11, 31, n);
-    lists_of::revocations_of(s, 11, 33, n);
+    for certificate in [small::edit(), revocation(20, 8, 11)] {
+        for length in WRONG {
+            parts::look(rt, s, &certificate, length, (room, room))?;
+        }
+    }
+    for length in WRONG {
+        lists_of::revocations_of(rt, s, &Argument::of(11, length), room)?;
+    }
+    for (subject, audience) in PAIRS {
+        let subject = Argument::of(1, subject);
+        let audience = Argument::of(3, audience);
+        lists_of::delegations_to(rt, s, &subject, &audience, room)?;
+    }
+    evaluated_into_room(rt, &s.evaluate(), room)
 }
 
-fn closure(e: Evaluated, n: usize)
-    requires { GoodEvaluated e }
+fn evaluated_into_room(rt: &impl Print, e: &Evaluated, room: usize) -> io::Result<()>
+    requires { GoodEvaluated e.now }
 {
-    lists_of::closure(e, 1, 0, n);
-    lists_of::closure(e, 1, 31, n);
-    lists_of::closure(e, 1, 33, n);
-}
-
-fn members(e: Evaluated, n: usize)
-    requires { GoodEvaluated e }
-{
-    lists_of::members(e, 1, 0, n, n);
-    lists_of::members(e, 1, 31, n, n);
-    lists_of::members(e, 1, 33, n, n);
-}
-
-fn lookups(s: State, n: usize)
-    requires { GoodState s }
-{
-    parts::delegation(s, small::edit(), 0, n, n);
-    parts::delegation(s, small::edit(), 31, n, n);
-    parts::delegation(s, small::edit(), 33, n, n);
-    parts::revocation(s, 20, 0, 11, n, n);
-    parts::revocation(s, 20, 31, 11, n, n);
-    parts::revocation(s, 20, 33, 11, n, n);
-}
-
-fn insertions(s: State)
-    requires { GoodState s }
-{
-    delegations(s);
-    delegation_order(s);
-    revocations(s);
-    revocation_order(s);
-    held(s);
-}
-
-fn evaluated(e: Evaluated)
-    requires { GoodEvaluated e }
-{
-    one(e);
-    powers(e);
-    powers_order(e);
-}
-
-fn into_room(s: State, n: usize)
-    requires { GoodState s }
-{
-    lookups(s, n);
-    revocations_of(s, n);
-    delegations_to(s, n);
-    let e = s.evaluate();
-    closure(e, n);
-    members(e, n);
-}
-
-// Digest 40 is held as a delegation and as a revocation, with other content, and no table has room: lengths and payload come first.
-fn delegations_when_full(s: State)
-    requires { GoodState s }
-{
-    delegation(s, 31, 33, 0);
-    delegation(s, 32, 33, 0);
-    delegation(s, 32, 32, 97);
-    delegation(s, 32, 32, 98);
-}
-
-fn revocations_when_full(s: State)
-    requires { GoodState s }
-{
-    revocation(s, 31, 33, 0);
-    revocation(s, 32, 33, 0);
-    revocation(s, 32, 32, 0);
-    revocation(s, 32, 32, 32);
-}
-
-fn in_full(s: State)
-    requires { GoodState s }
-{
-    say::text(b"lengths in the full set\n");
-    delegations_when_full(s);
-    revocations_when_full(s);
+    for length in WRONG {
+        lists_of::closure(rt, e, &Argument::of(1, length), room)?;
+    }
+    for length in WRONG {
+        lists_of::members(rt, e, &Argument::of(1, length), (room, room))?;
+    }
+    Ok(())
 }
 
 // The set is the full one.
-pub(crate) fn cases(s: State)
-    requires { GoodState s }
+pub(crate) fn cases(rt: &impl Print, s: &State) -> io::Result<()>
 {
-    in_full(s);
-    in_small();
-}
-
-fn in_small() {
-    say::text(b"lengths in the small set\n");
+    println!(rt; "lengths in the full set")?;
+    insertions(rt, s, &delegation(), &DELEGATIONS_WHEN_FULL)?;
+    insertions(rt, s, &revocation(40, 1, 41), &REVOCATIONS_WHEN_FULL)?;
+    println!(rt; "lengths in the small set")?;
     let s = small::set();
-    insertions(s);
-    evaluated(s.evaluate());
-    into_room(s, 0);
-    into_room(s, 100);
+    insertions(rt, &s, &delegation(), &DELEGATIONS)?;
+    insertions(rt, &s, &revocation(40, 1, 41), &REVOCATIONS)?;
+    questions(rt, &s)?;
+    into_room(rt, &s, 0)?;
+    into_room(rt, &s, 100)
 }

@@ -1,11 +1,13 @@
-// One line for each call that fills a buffer with a list. The call is lent the first n bytes of a space that is filled before.
-ghost use Rattle.keyline_memory.specs.State.{GoodState};
+// One line for each call that fills a buffer with a list. The call is lent the first bytes of a space that is filled before.
 ghost use Rattle.queries.specs.Evaluated.{GoodEvaluated};
 
-use crate::say::BEFORE;
-use crate::{make, say};
+use crate::answered;
+use crate::answered::Answered;
+use crate::argument::Argument;
+use crate::room::{BEFORE, Items, touched};
 use keyline_memory::state::State;
 use queries::evaluated::Evaluated;
+use std::io;
 
 // More than the longest list has: 128 delegations and 64 revocations.
 const SPACE: usize = 6200;
@@ -13,170 +15,115 @@ const SPACE: usize = 6200;
 // More than the powers of 63 members.
 const POWERS: usize = 100;
 
-// An argument by its number and its length.
-fn argument(k: u8, length: usize) {
-    say::byte(b" ", k);
-    say::number(b" of ", length);
-}
-
-fn end(out: &[u8], items: usize) {
-    say::items(b", items", out, items);
-    say::touched(out);
-    say::text(b"\n");
-}
-
-pub(crate) fn subjects(s: State, n: usize)
-    requires { GoodState s }
+// Behind the call's name and arguments: the room, the answer, the items, and how many bytes of the space were touched.
+fn into_room<F: FnOnce(&mut [u8]) -> Answered>(
+    rt: &impl Print,
+    room: usize,
+    call: F,
+) -> io::Result<()>
+    requires { F.IsAlwaysCallable call }
 {
-    let mut out = [BEFORE; SPACE];
-    say::text(b"  subjects");
-    put_subjects(s, n, &mut out);
+    let mut space = [BEFORE; SPACE];
+    let answer = call(&mut space[..room.min(SPACE)]);
+    print!(rt; ", room {room}: {answer}")?;
+    items(rt, &space, answer.items())?;
+    println!(rt; ", touched {}", touched(&space))
 }
 
-fn put_subjects(s: State, n: usize, out: &mut [u8])
-    requires { GoodState s }
-{
-    if out.len() < n {
-        return;
+fn items(rt: &impl Print, space: &[u8], count: usize) -> io::Result<()> {
+    if count == 0 {
+        return Ok(());
     }
-    say::number(b", room ", n);
-    let k = say::listed(s.subjects(&mut out[0..n]));
-    end(out, k);
+    print!(rt; ", items{}", Items { space, count })
 }
 
-pub(crate) fn certificates(s: State, n: usize)
-    requires { GoodState s }
+pub(crate) fn subjects(rt: &impl Print, s: &State, room: usize) -> io::Result<()>
 {
-    let mut out = [BEFORE; SPACE];
-    say::text(b"  certificates");
-    put_certificates(s, n, &mut out);
+    print!(rt; "  subjects")?;
+    into_room(rt, room, |out| answered::listed(s.subjects(out)))
 }
 
-fn put_certificates(s: State, n: usize, out: &mut [u8])
-    requires { GoodState s }
+pub(crate) fn certificates(rt: &impl Print, s: &State, room: usize) -> io::Result<()>
 {
-    if out.len() < n {
-        return;
-    }
-    say::number(b", room ", n);
-    let k = say::both(s.certificates(&mut out[0..n]));
-    end(out, k);
+    print!(rt; "  certificates")?;
+    into_room(rt, room, |out| answered::both_listed(s.certificates(out)))
 }
 
-// The target is so many bytes.
-pub(crate) fn revocations_of(s: State, target: u8, length: usize, n: usize)
-    requires { GoodState s }
+pub(crate) fn revocations_of(
+    rt: &impl Print,
+    s: &State,
+    target: &Argument,
+    room: usize,
+) -> io::Result<()>
 {
-    let mut out = [BEFORE; SPACE];
-    let x = make::run(target);
-    say::text(b"  revocations_of");
-    argument(target, length);
-    put_revocations_of(s, make::cut(&x, length), n, &mut out);
+    print!(rt; "  revocations_of {target}")?;
+    into_room(rt, room, |out| {
+        answered::listed(s.revocations_of(target.as_slice(), out))
+    })
 }
 
-fn put_revocations_of(s: State, target: &[u8], n: usize, out: &mut [u8])
-    requires { GoodState s }
+pub(crate) fn delegations_to(
+    rt: &impl Print,
+    s: &State,
+    subject: &Argument,
+    audience: &Argument,
+    room: usize,
+) -> io::Result<()>
 {
-    if out.len() < n {
-        return;
-    }
-    say::number(b", room ", n);
-    let k = say::listed(s.revocations_of(target, &mut out[0..n]));
-    end(out, k);
+    print!(rt; "  delegations_to {subject} {audience}")?;
+    into_room(rt, room, |out| {
+        answered::listed(s.delegations_to(subject.as_slice(), audience.as_slice(), out))
+    })
 }
 
-// Subject 1 and audience 3 of the small set, at these lengths.
-pub(crate) fn delegations_to(s: State, length: usize, other: usize, n: usize)
-    requires { GoodState s }
+pub(crate) fn closure(
+    rt: &impl Print,
+    e: &Evaluated,
+    subject: &Argument,
+    room: usize,
+) -> io::Result<()>
+    requires { GoodEvaluated e.now }
 {
-    let mut out = [BEFORE; SPACE];
-    let x = make::run(1);
-    let y = make::run(3);
-    say::text(b"  delegations_to");
-    argument(1, length);
-    argument(3, other);
-    put_delegations_to(s, make::cut(&x, length), make::cut(&y, other), n, &mut out);
+    print!(rt; "  closure {subject}")?;
+    into_room(rt, room, |out| {
+        answered::both_listed(e.closure(subject.as_slice(), out))
+    })
 }
 
-// Any two keys.
-pub(crate) fn between(s: State, subject: u8, audience: u8, n: usize)
-    requires { GoodState s }
+// Keys in the first room, powers in the second one.
+pub(crate) fn members(
+    rt: &impl Print,
+    e: &Evaluated,
+    subject: &Argument,
+    rooms: (usize, usize),
+) -> io::Result<()>
+    requires { GoodEvaluated e.now }
 {
-    let mut out = [BEFORE; SPACE];
-    let x = make::run(subject);
-    let y = make::run(audience);
-    say::text(b"  delegations_to");
-    argument(subject, 32);
-    argument(audience, 32);
-    put_delegations_to(s, make::cut(&x, 32), make::cut(&y, 32), n, &mut out);
-}
-
-fn put_delegations_to(s: State, subject: &[u8], audience: &[u8], n: usize, out: &mut [u8])
-    requires { GoodState s }
-{
-    if out.len() < n {
-        return;
-    }
-    say::number(b", room ", n);
-    let k = say::listed(s.delegations_to(subject, audience, &mut out[0..n]));
-    end(out, k);
-}
-
-pub(crate) fn closure(e: Evaluated, subject: u8, length: usize, n: usize)
-    requires { GoodEvaluated e }
-{
-    let mut out = [BEFORE; SPACE];
-    let x = make::run(subject);
-    say::text(b"  closure");
-    argument(subject, length);
-    put_closure(e, make::cut(&x, length), n, &mut out);
-}
-
-fn put_closure(e: Evaluated, subject: &[u8], n: usize, out: &mut [u8])
-    requires { GoodEvaluated e }
-{
-    if out.len() < n {
-        return;
-    }
-    say::number(b", room ", n);
-    let k = say::both(e.closure(subject, &mut out[0..n]));
-    end(out, k);
-}
-
-// Keys in a room of n bytes, powers in one of m.
-pub(crate) fn members(e: Evaluated, subject: u8, length: usize, n: usize, m: usize)
-    requires { GoodEvaluated e }
-{
-    let mut out = [BEFORE; SPACE];
+    let (room, other) = rooms;
+    let mut keys = [BEFORE; SPACE];
     let mut powers = [BEFORE; POWERS];
-    let x = make::run(subject);
-    say::text(b"  members");
-    argument(subject, length);
-    put_members(e, make::cut(&x, length), n, &mut out, m, &mut powers);
+    let answer = answered::listed(e.members(
+        subject.as_slice(),
+        &mut keys[..room.min(SPACE)],
+        &mut powers[..other.min(POWERS)],
+    ));
+    print!(rt; "  members {subject}, rooms {room} and {other}: {answer}")?;
+    items(rt, &keys, answer.items())?;
+    letters(rt, &powers[..answer.items().min(POWERS)])?;
+    println!(rt;
+        ", touched {}, touched {}",
+        touched(&keys),
+        touched(&powers)
+    )
 }
 
-fn put_members(e: Evaluated, subject: &[u8], n: usize, out: &mut [u8], m: usize, powers: &mut [u8])
-    requires { GoodEvaluated e }
-{
-    if out.len() < n {
-        return;
+fn letters(rt: &impl Print, powers: &[u8]) -> io::Result<()> {
+    if powers.is_empty() {
+        return Ok(());
     }
-    if powers.len() < m {
-        return;
+    print!(rt; ", powers ")?;
+    for power in powers {
+        print!(rt; "{}", char::from(*power))?;
     }
-    say::number(b", rooms ", n);
-    say::number(b" and ", m);
-    let k = say::listed(e.members(subject, &mut out[0..n], &mut powers[0..m]));
-    say_members(out, powers, k);
-}
-
-fn say_members(out: &[u8], powers: &[u8], k: usize) {
-    say::items(b", items", out, k);
-    if 0 < k {
-        say::text(b", powers ");
-        say::text(make::cut(powers, k));
-    }
-    say::touched(out);
-    say::touched(powers);
-    say::text(b"\n");
+    Ok(())
 }

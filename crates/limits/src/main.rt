@@ -2,26 +2,30 @@
 // The file stdout beside src/ says what each line must be; it is written from document 01, not from a run.
 #![tactic(auto)]
 
+mod answered;
+mod argument;
 mod asked;
 mod buffers;
+mod certificate;
 mod fill;
 mod full;
 mod insert;
 mod keys;
 mod lengths;
 mod lists_of;
-mod make;
 mod parts;
-mod say;
+mod room;
 mod small;
 mod unheld;
 
-fn main() {
+use std::io;
+
+fn main(rt: HostRuntime) -> io::Result<()> {
     let full = fill::full();
-    keys::cases();
-    full::cases(full);
-    buffers::cases(full);
-    parts::cases();
-    lengths::cases(full);
-    unheld::cases();
+    keys::cases(&rt)?;
+    full::cases(&rt, &full)?;
+    buffers::cases(&rt, &full)?;
+    parts::cases(&rt)?;
+    lengths::cases(&rt, &full)?;
+    unheld::cases(&rt)
 }

@@ -1,81 +1,26 @@
 // The kernel, as the lines ask it: each of its calls once, with its answer as an Option or a Result. What it lists is lent as a part of the buffer
 // that it was listed in.
-ghost use Rattle.keyline_memory.specs.State.{GoodState};
 ghost use Rattle.queries.specs.Evaluated.{GoodEvaluated};
 
 use crate::fields::Run;
-use answers::answer::{Liveness, Powered, Stood};
-use codec::delegation::Decoded;
 use keyline::limits::DIGEST_LENGTH;
 use keyline::refusal::Refusal;
-use keyline_memory::state;
+use keyline::standing::Standing;
 use keyline_memory::state::State;
-use lists::write::{BothListed, Listed};
-use lookups::lookup::Contained;
-use lookups::put::Looked;
 use power_levels::power::Power;
 use queries::evaluated::Evaluated;
-use tables::answer::Answer;
+use tables::answer::Outcome;
 
 // What the reader says of a payload: its power, and whether it cites.
 pub(crate) fn decode(payload: &[u8]) -> Result<(Power, bool), Refusal> {
-    match codec::delegation::decode(payload) {
-        Decoded::Accepted(power, cited) => Ok((power, cited)),
-        Decoded::Refused(why) => Err(why),
-    }
-}
-
-// Whether the insertion added something.
-fn added(answer: Answer) -> Result<bool, Refusal> {
-    match answer {
-        Answer::Added => Ok(true),
-        Answer::NotAdded => Ok(false),
-        Answer::Refused(why) => Err(why),
-    }
-}
-
-fn contained(answer: Contained) -> Result<bool, Refusal> {
-    match answer {
-        Contained::Is(held) => Ok(held),
-        Contained::Refused(why) => Err(why),
-    }
-}
-
-// How many bytes the lookup put into the second buffer, where it found something.
-fn looked(answer: Looked) -> Result<Option<usize>, Refusal> {
-    match answer {
-        Looked::Held(n) => Ok(Some(n)),
-        Looked::Absent => Ok(None),
-        Looked::Refused(why) => Err(why),
-    }
-}
-
-fn listed(answer: Listed) -> Result<usize, Refusal> {
-    match answer {
-        Listed::Items(n) => Ok(n),
-        Listed::Refused(why) => Err(why),
-    }
-}
-
-fn both_listed(answer: BothListed) -> Result<(usize, usize), Refusal> {
-    match answer {
-        BothListed::Items(n, m) => Ok((n, m)),
-        BothListed::Refused(why) => Err(why),
-    }
-}
-
-fn power(answer: Powered) -> Result<Option<Power>, Refusal> {
-    match answer {
-        Powered::Level(power) => Ok(Some(power)),
-        Powered::Nothing => Ok(None),
-        Powered::Refused(why) => Err(why),
-    }
+    let found = codec::delegation::decode(payload)?;
+    Ok((found.power, !found.citation.is_empty()))
 }
 
 // The letter of an answer, where it is one.
-fn letter(answer: Powered) -> Option<u8> {
-    let power = power(answer).ok()?;
-    Some(power.map_or(b'.', power_levels::power::byte))
+fn letter(answer: Result<Option<Power>, Refusal>) -> Option<u8> {
+    let power = answer.ok()?;
+    Some(power.map_or(b'.', |power| power.byte()))
 }
 
 // The first runs of a buffer.
@@ -92,13 +37,12 @@ fn both_runs(buffer: &[u8], n: usize, m: usize) -> Option<(&[Run], &[Run])> {
 #[derive(Clone, Copy)]
 pub(crate) struct Store {
     state: State,
-    ghost good: { GoodState state },
 }
 
 impl Store {
     pub(crate) fn new() -> Self {
         Store {
-            state: state::new(),
+            state: State::new(),
         }
     }
 
@@ -109,9 +53,8 @@ impl Store {
         issuer: &Run,
         payload: &[u8],
     ) -> Result<bool, Refusal> {
-        let r = self.state.insert_delegation(digest, issuer, payload);
-        self.state = r.state;
-        added(r.answer)
+        let outcome = self.state.insert_delegation(digest, issuer, payload)?;
+        Ok(outcome == Outcome::Added)
     }
 
     pub(crate) fn insert_revocation(
@@ -120,9 +63,8 @@ impl Store {
         issuer: &Run,
         revoked: &Run,
     ) -> Result<bool, Refusal> {
-        let r = self.state.insert_revocation(digest, issuer, revoked);
-        self.state = r.state;
-        added(r.answer)
+        let outcome = self.state.insert_revocation(digest, issuer, revoked)?;
+        Ok(outcome == Outcome::Added)
     }
 
     pub(crate) fn version(&self) -> u64 {
@@ -146,11 +88,11 @@ impl Store {
     }
 
     pub(crate) fn contains_delegation(&self, digest: &Run) -> Option<bool> {
-        contained(self.state.contains_delegation(digest)).ok()
+        self.state.contains_delegation(digest).ok()
     }
 
     pub(crate) fn contains_revocation(&self, digest: &Run) -> Option<bool> {
-        contained(self.state.contains_revocation(digest)).ok()
+        self.state.contains_revocation(digest).ok()
     }
 
     pub(crate) fn delegation(
@@ -159,7 +101,7 @@ impl Store {
         issuer: &mut Run,
         payload: &mut [u8],
     ) -> Result<Option<usize>, Refusal> {
-        looked(self.state.delegation(digest, issuer, payload))
+        self.state.delegation(digest, issuer, payload)
     }
 
     pub(crate) fn revocation(
@@ -168,22 +110,22 @@ impl Store {
         issuer: &mut Run,
         revoked: &mut Run,
     ) -> Result<Option<usize>, Refusal> {
-        looked(self.state.revocation(digest, issuer, revoked))
+        self.state.revocation(digest, issuer, revoked)
     }
 
     // The delegations, and the revocations.
     pub(crate) fn certificates<'a>(&self, out: &'a mut [u8]) -> Option<(&'a [Run], &'a [Run])> {
-        let (n, m) = both_listed(self.state.certificates(out)).ok()?;
-        both_runs(out, n, m)
+        let n = self.state.certificates(out).ok()?;
+        both_runs(out, n.delegations, n.revocations)
     }
 
     pub(crate) fn subjects<'a>(&self, out: &'a mut [u8]) -> Option<&'a [Run]> {
-        let n = listed(self.state.subjects(out)).ok()?;
+        let n = self.state.subjects(out).ok()?;
         runs(out, n)
     }
 
     pub(crate) fn revocations_of<'a>(&self, target: &Run, out: &'a mut [u8]) -> Option<&'a [Run]> {
-        let n = listed(self.state.revocations_of(target, out)).ok()?;
+        let n = self.state.revocations_of(target, out).ok()?;
         runs(out, n)
     }
 
@@ -193,7 +135,7 @@ impl Store {
         audience: &Run,
         out: &'a mut [u8],
     ) -> Option<&'a [Run]> {
-        let n = listed(self.state.delegations_to(subject, audience, out)).ok()?;
+        let n = self.state.delegations_to(subject, audience, out).ok()?;
         runs(out, n)
     }
 }
@@ -228,13 +170,10 @@ impl Evaluation {
     pub(crate) fn is_live(&self, digest: &Run) -> bool
         requires { GoodEvaluated self.now.evaluated }
     {
-        match self.evaluated.is_live(digest) {
-            Liveness::Live => true,
-            Liveness::Dead | Liveness::Refused(_) => false,
-        }
+        self.evaluated.is_live(digest) == Ok(true)
     }
 
-    pub(crate) fn standing(&self, digest: &Run) -> Stood
+    pub(crate) fn standing(&self, digest: &Run) -> Result<Option<Standing>, Refusal>
         requires { GoodEvaluated self.now.evaluated }
     {
         self.evaluated.standing(digest)
@@ -249,7 +188,7 @@ impl Evaluation {
     ) -> Option<(&'a [Run], &'a [u8])>
         requires { GoodEvaluated self.now.evaluated }
     {
-        let n = listed(self.evaluated.members(subject, keys, powers)).ok()?;
+        let n = self.evaluated.members(subject, keys, powers).ok()?;
         Some((runs(keys, n)?, powers.get(..n)?))
     }
 
@@ -261,7 +200,7 @@ impl Evaluation {
     ) -> Option<(&'a [Run], &'a [Run])>
         requires { GoodEvaluated self.now.evaluated }
     {
-        let (n, m) = both_listed(self.evaluated.closure(subject, out)).ok()?;
-        both_runs(out, n, m)
+        let n = self.evaluated.closure(subject, out).ok()?;
+        both_runs(out, n.delegations, n.revocations)
     }
 }
