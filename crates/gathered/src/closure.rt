@@ -22,7 +22,7 @@ pub fn closure(store: Store, evaluation: Evaluation, subject: &[u8], out: &mut [
         SoughtKey::Refused(why) => BothListed::Refused(why),
         SoughtKey::Unheld => BothListed::Items(0, 0),
         SoughtKey::At(s) => {
-            let nodes = evaluation::nodes::nodes(evaluation, s);
+            let nodes = evaluation.nodes(s);
             let d = store.delegations.count;
             let m = store.revocations.count;
             let subjects = store.delegations.subject;

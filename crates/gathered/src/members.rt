@@ -29,7 +29,7 @@ pub fn members(
         SoughtKey::Refused(why) => Listed::Refused(why),
         SoughtKey::Unheld => Listed::Items(0),
         SoughtKey::At(s) => {
-            let row = evaluation::levels::levels(evaluation, s);
+            let row = evaluation.levels(s);
             let on = marks::member_marks(&row, n, s.0);
             let c = runs::list::choose(&table, KEY_LIMIT, n, &on);
             let letters = marks::letters(&row);

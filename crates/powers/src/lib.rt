@@ -32,9 +32,7 @@ pub fn positive_power(
         Pair::Refused(why) => Powered::Refused(why),
         Pair::Same => Powered::Level(Power::Admin),
         Pair::Unheld => Powered::Nothing,
-        Pair::At(s, x) => {
-            answer::level_of(evaluation::positive::positive_power(evaluation, s, x))
-        }
+        Pair::At(s, x) => answer::level_of(evaluation.positive_power(s, x)),
     }
 }
 
@@ -56,9 +54,8 @@ pub fn effective_power(
         Pair::Same => Powered::Level(Power::Admin),
         Pair::Unheld => Powered::Nothing,
         Pair::At(s, x) => {
-            let row = evaluation::levels::levels(evaluation, s);
-            let k = x.0;
-            answer::level_of(row[k])
+            let row = evaluation.levels(s);
+            answer::level_of(row[x.0])
         }
     }
 }
@@ -76,8 +73,6 @@ pub fn conveyed_power(
     match asked {
         SoughtDelegation::Refused(why) => Powered::Refused(why),
         SoughtDelegation::Unheld => Powered::Nothing,
-        SoughtDelegation::At(d) => {
-            answer::level_of(evaluation::conveyed::conveyed_power(evaluation, d))
-        }
+        SoughtDelegation::At(d) => answer::level_of(evaluation.conveyed_power(d)),
     }
 }

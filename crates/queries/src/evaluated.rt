@@ -78,11 +78,7 @@ impl Evaluated {
         let x = hints::look(&table, n, &front, FRONT, audience);
         if s < n {
             if x < n {
-                let p = evaluation::positive::positive_power(
-                    self.evaluation,
-                    KeyPlace(s),
-                    KeyPlace(x),
-                );
+                let p = self.evaluation.positive_power(KeyPlace(s), KeyPlace(x));
                 return answer::level_of(p);
             }
         }
@@ -92,11 +88,7 @@ impl Evaluated {
         let x = hints::look(&table, n, &back, BACK, audience);
         if s < n {
             if x < n {
-                let p = evaluation::positive::positive_power(
-                    self.evaluation,
-                    KeyPlace(s),
-                    KeyPlace(x),
-                );
+                let p = self.evaluation.positive_power(KeyPlace(s), KeyPlace(x));
                 return answer::level_of(p);
             }
         }

@@ -26,8 +26,7 @@ pub fn standing(
         SoughtDelegation::Refused(why) => Stood::Refused(why),
         SoughtDelegation::Unheld => Stood::Absent,
         SoughtDelegation::At(d) => {
-            let is = evaluation::standing::standing_of(evaluation, d);
-            match is {
+            match evaluation.standing_of(d) {
                 Standing::Live => Stood::Live,
                 Standing::Revoked => Stood::Revoked,
                 Standing::Unsupported => Stood::Unsupported,
@@ -50,8 +49,7 @@ pub fn is_live(
         SoughtDelegation::Refused(why) => Liveness::Refused(why),
         SoughtDelegation::Unheld => Liveness::Dead,
         SoughtDelegation::At(d) => {
-            let is = evaluation::standing::standing_of(evaluation, d);
-            match is {
+            match evaluation.standing_of(d) {
                 Standing::Live => Liveness::Live,
                 Standing::Revoked => Liveness::Dead,
                 Standing::Unsupported => Liveness::Dead,

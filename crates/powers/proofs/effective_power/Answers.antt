@@ -25,8 +25,8 @@ levels-row-requires c =
     let r = g.store.keys.room in
     (g.evaluation, omega arith)
 
-pub bounds-row-k : goal.bounds-row-k
-bounds-row-k c =
+pub bounds-row-x : goal.bounds-row-x
+bounds-row-x c =
     let g = c.requires in
     let a = pair_at_lem c.seek_pair-asked.ensures c.in-At.is in
     let k = a.audience_in in

@@ -8,8 +8,8 @@ use Rattle.answers.specs.declared.answer.Liveness.TheVariants as liveness
 use Rattle.answers.proofs.Cases.{lives, dies_revoked, dies_unsupported, delegation_at_place, delegation_unheld, delegation_refused, not_held, is_held, with_is}
 use Rattle.standings.proofs.is_live.Goals as goal
 
-pub standing_of-is-requires : goal.standing_of-is-requires
-standing_of-is-requires c =
+pub standing_of-requires : goal.standing_of-requires
+standing_of-requires c =
     let g = c.requires.0 in
     let a = delegation_at_place c.requires.1 c.in-At.is in
     (g.evaluation, rw g.facts.delegations a.within)
@@ -32,7 +32,7 @@ returns-in-Live c =
     let st = s.store in
     let x = s.digest.now in
     let a = delegation_at_place c.requires.1 c.in-At.is in
-    let t = standing_bytes (table st g.store s.evaluation.facts g.facts) (rw g.facts.delegations a.within) (rw c.in-Live.is at c.standing_of-is.ensures) in
+    let t = standing_bytes (table st g.store s.evaluation.facts g.facts) (rw g.facts.delegations a.within) (rw c.in-Live.is at c.standing_of.ensures) in
     says.live a.long (is_held st g.store x c.in-At.d a) (rw (with_is st g.store x c.in-At.d a) (lives t))
 
 pub returns-in-Revoked : goal.returns-in-Revoked
@@ -42,7 +42,7 @@ returns-in-Revoked c =
     let st = s.store in
     let x = s.digest.now in
     let a = delegation_at_place c.requires.1 c.in-At.is in
-    let t = standing_bytes (table st g.store s.evaluation.facts g.facts) (rw g.facts.delegations a.within) (rw c.in-Revoked.is at c.standing_of-is.ensures) in
+    let t = standing_bytes (table st g.store s.evaluation.facts g.facts) (rw g.facts.delegations a.within) (rw c.in-Revoked.is at c.standing_of.ensures) in
     says.dead a.long (is_held st g.store x c.in-At.d a) (rw (with_is st g.store x c.in-At.d a) (dies_revoked t))
 
 pub returns-in-Unsupported : goal.returns-in-Unsupported
@@ -52,5 +52,5 @@ returns-in-Unsupported c =
     let st = s.store in
     let x = s.digest.now in
     let a = delegation_at_place c.requires.1 c.in-At.is in
-    let t = standing_bytes (table st g.store s.evaluation.facts g.facts) (rw g.facts.delegations a.within) (rw c.in-Unsupported.is at c.standing_of-is.ensures) in
+    let t = standing_bytes (table st g.store s.evaluation.facts g.facts) (rw g.facts.delegations a.within) (rw c.in-Unsupported.is at c.standing_of.ensures) in
     says.dead a.long (is_held st g.store x c.in-At.d a) (rw (with_is st g.store x c.in-At.d a) (dies_unsupported t))
