@@ -20,6 +20,7 @@ use coverage::Facts;
 use places::{ADMIN, DELEGATION_LIMIT, DelegationPlace, KEY_LIMIT, KeyPlace, LEVEL_COUNT, wide};
 use search::Levels;
 
+// What holds of every one (Evaluated) stands in the contracts and not in a ghost field: it has derivations in it, and those have more than one proof.
 #[derive(Clone, Copy)]
 pub struct Evaluation {
     pub facts: Facts,
