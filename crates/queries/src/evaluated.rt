@@ -2,7 +2,7 @@
 // questions are those of powers, standings and gathered, each put to the two.
 //
 // Why seek_delegation and positive_power are written as they are: they are the two that every cheap question goes through, and their callers hand
-// the whole set on. Where a column is taken right before it is lent, the compiler lends the set's own and copies none.
+// the whole set on. Where a column, or the evaluation, is taken right before it is lent, the compiler lends the set's own and copies none.
 ghost use Rattle.answers.specs.Answers.{PositivePower, EffectivePower, ConveyedPower, IsLive, StandingAnswer, MembersAnswer, ClosureAnswer};
 ghost use Rattle.std.specs.Prelude.{◌≡◌};
 ghost use Rattle.answers.specs.Sought.{DelegationOf};
@@ -78,7 +78,8 @@ impl Evaluated {
         let x = hints::look(&table, n, &front, FRONT, audience);
         if s < n {
             if x < n {
-                let p = self.evaluation.positive_power(KeyPlace(s), KeyPlace(x));
+                let evaluation = self.evaluation;
+                let p = evaluation.positive_power(KeyPlace(s), KeyPlace(x));
                 return answer::level_of(p);
             }
         }
@@ -88,7 +89,8 @@ impl Evaluated {
         let x = hints::look(&table, n, &back, BACK, audience);
         if s < n {
             if x < n {
-                let p = self.evaluation.positive_power(KeyPlace(s), KeyPlace(x));
+                let evaluation = self.evaluation;
+                let p = evaluation.positive_power(KeyPlace(s), KeyPlace(x));
                 return answer::level_of(p);
             }
         }
