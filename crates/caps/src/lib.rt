@@ -13,7 +13,7 @@ ghost use Rattle.search.specs.Sets.{Word};
 ghost use Rattle.search.specs.Graph.{graph};
 ghost use Rattle.search.specs.Index.{Ready, Indexed};
 ghost use Rattle.search.specs.Levels.{height};
-ghost use Rattle.coverage.specs.Arrays.{Below, Differ};
+ghost use Rattle.coverage.specs.Arrays.{Below};
 ghost use Rattle.coverage.specs.Places.{Fit, Subject};
 ghost use Rattle.coverage.specs.Coverage.{Nets};
 ghost use Rattle.coverage.specs.Contexts.{Within, Put, Grouped, Agreeing};
@@ -25,18 +25,6 @@ use coverage::{Facts, members};
 use places::{DELEGATION_LIMIT, KEY_LIMIT, KeyPlace, LEVEL_COUNT, REVOCATION_LIMIT, wide};
 use search::Levels;
 use search::edges::Edges;
-
-pub fn least(a: u8, b: u8) -> u8
-    ensures { result ≡ min a b }
-{
-    if a < b { a } else { b }
-}
-
-fn most(a: u8, b: u8) -> u8
-    ensures { result ≡ max a b }
-{
-    if a < b { b } else { a }
-}
 
 // The revocations that name a live covered delegation.
 fn living(
@@ -50,15 +38,10 @@ fn living(
     ensures { Word result (Below m (Alive target.now n excluded.now grades.now)) }
 {
     let mut w = 0;
-    let mut j = 0;
-    while j < m {
+    for j in 0..m {
         let d = wide(target[j]);
-        let i = j;
-        j += 1;
-        if d < n {
-            if (excluded[d] != 0) & (grades[d] != 0) {
-                w = keyset::with(w, i);
-            }
+        if d < n && excluded[d] != 0 && grades[d] != 0 {
+            w = keyset::with(w, j);
         }
     }
     w
@@ -91,7 +74,7 @@ fn raise<'a>(
             KeyPlace(wide(subject[d])),
             KeyPlace(wide(issuer[d])),
         );
-        next[d] = most(grades[d], least(power[d] + 1, level));
+        next[d] = grades[d].max((power[d] + 1).min(level));
     }
 }
 
@@ -152,33 +135,16 @@ fn cap_round<'a>(
     ensures { Lifted (graph issuer.now audience.now subject.now grades.now 0) power.now target.now living count exclude.now contexts.now result }
 {
     let mut next = *grades;
-    let mut c = 0;
-    while c < count {
-        let i = c;
-        c += 1;
-        let m = keyset::meet(contexts[i], living);
+    for c in 0..count {
+        let m = keyset::meet(contexts[c], living);
         if m != 0 {
             cap_context(
-                m, exclude[i], subjects, target, issuer, audience, subject, power, grades, issuers,
+                m, exclude[c], subjects, target, issuer, audience, subject, power, grades, issuers,
                 last, earlier, &mut next,
             );
         }
     }
     next
-}
-
-// Whether two arrays of grades differ.
-fn differ(a: &[u8; DELEGATION_LIMIT], b: &[u8; DELEGATION_LIMIT]) -> bool
-    ensures { Differ delegation_limit a.now b.now result }
-{
-    let mut d = 0;
-    while d < DELEGATION_LIMIT {
-        if a[d] != b[d] {
-            return true;
-        }
-        d += 1;
-    }
-    false
 }
 
 // The grades of the live delegations, those of covered ones at their caps.
@@ -218,10 +184,9 @@ pub fn caps(
             &edges.last,
             &edges.earlier,
         );
-        if differ(&next, &grades) {
-            grades = next;
-        } else {
+        if next == grades {
             return grades;
         }
+        grades = next;
     }
 }

@@ -26,7 +26,7 @@ pub fn closure(
             revocations: 0,
         }),
         Some(s) => {
-            let nodes = evaluation::nodes::nodes(*evaluation, s);
+            let nodes = evaluation.nodes(s);
             let d = store.delegations.count;
             let m = store.revocations.count;
             let dels = marks::in_nodes(&store.delegations.subject, d, nodes);

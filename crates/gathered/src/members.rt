@@ -25,7 +25,7 @@ pub fn members(
     match sought::seek_key(table, n, subject)? {
         None => Ok(0),
         Some(s) => {
-            let row = evaluation::levels::levels(*evaluation, s);
+            let row = evaluation.levels(s);
             let on = marks::member_marks(&row, n, s.0);
             let c = runs::list::choose(table, KEY_LIMIT, n, &on);
             let letters = marks::letters(&row);

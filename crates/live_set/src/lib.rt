@@ -38,18 +38,10 @@ fn plain(
     ensures { Filled n (PlainAt power.now excluded.now) result }
 {
     let mut g = [0u8; DELEGATION_LIMIT];
-    let mut d = 0;
-    while d < n {
-        g[d] = pick(excluded[d] == 0, power[d] + 1, 0);
-        d += 1;
+    for d in 0..n {
+        g[d] = if excluded[d] == 0 { power[d] + 1 } else { 0 };
     }
     g
-}
-
-fn pick(t: bool, a: u8, b: u8) -> u8
-    ensures { (t ≡ true → result ≡ a) × (t ≡ false → result ≡ b) }
-{
-    if t { a } else { b }
 }
 
 // Whether the issuer or the subject is in the exclusion set.
@@ -92,21 +84,18 @@ fn eligibles<'a>(
     ensures { Word result (Below m (Open target.now n issuer.now audience.now subject.now revokers.now excluded.now)) }
 {
     let mut w = 0;
-    let mut j = 0;
-    while j < m {
+    for j in 0..m {
         let d = wide(target[j]);
-        let i = j;
-        j += 1;
-        if d < n {
-            if eligible(
+        if d < n
+            && eligible(
                 excluded[d],
                 revokers[d],
                 wide(issuer[d]),
                 wide(audience[d]),
                 wide(subject[d]),
-            ) {
-                w = keyset::with(w, i);
-            }
+            )
+        {
+            w = keyset::with(w, j);
         }
     }
     w
@@ -162,14 +151,11 @@ fn newly_live<'a>(
     ensures { Word result (In count contexts.now (λ c j. (bit candidates j ≡ 1) × Judged (graph issuer.now audience.now subject.now grades.now (get_or exclude.now c 0)) (get_or target.now j 0))) }
 {
     let mut w = 0;
-    let mut c = 0;
-    while c < count {
-        let i = c;
-        c += 1;
-        let m = keyset::meet(contexts[i], candidates);
+    for c in 0..count {
+        let m = keyset::meet(contexts[c], candidates);
         if m != 0 {
             let found = judge(
-                m, exclude[i], subjects, target, issuer, audience, subject, grades, issuers, last,
+                m, exclude[c], subjects, target, issuer, audience, subject, grades, issuers, last,
                 earlier,
             );
             w = keyset::union(w, found);
@@ -239,12 +225,14 @@ fn settle(exclude: u64, grade: u8, stands: bool) -> u8
     ensures only { 0 < result → (exclude ≡ 0 → (stands ≡ true) × (result ≡ grade)) × (0 < grade) }
 {
     if grade == 0 {
-        return 0;
+        0
+    } else if exclude != 0 {
+        1
+    } else if stands {
+        grade
+    } else {
+        0
     }
-    if exclude != 0 {
-        return 1;
-    }
-    pick(stands, grade, 0)
 }
 
 // The grades from which caps rise. An uncovered delegation is live when its issuer is reached with nobody excluded.
@@ -262,15 +250,13 @@ fn settled<'a>(
     ensures { Filled n (SettledAt issuer.now subject.now excluded.now grades.now base.now) result }
 {
     let mut g = [0u8; DELEGATION_LIMIT];
-    let mut d = 0;
-    while d < n {
+    for d in 0..n {
         let stands = search::levels::reached(
             base,
             KeyPlace(wide(subject[d])),
             KeyPlace(wide(issuer[d])),
         );
         g[d] = settle(excluded[d], grades[d], stands);
-        d += 1;
     }
     g
 }

@@ -29,9 +29,7 @@ pub fn positive_power(
     match asked? {
         Pair::Same => Ok(Some(Power::Admin)),
         Pair::Unheld => Ok(None),
-        Pair::At(s, x) => {
-            Ok(answer::level_of(evaluation::positive::positive_power(*evaluation, s, x)))
-        }
+        Pair::At(s, x) => Ok(answer::level_of(evaluation.positive_power(s, x))),
     }
 }
 
@@ -50,9 +48,8 @@ pub fn effective_power(
         Pair::Same => Ok(Some(Power::Admin)),
         Pair::Unheld => Ok(None),
         Pair::At(s, x) => {
-            let row = evaluation::levels::levels(*evaluation, s);
-            let k = x.0;
-            Ok(answer::level_of(row[k]))
+            let row = evaluation.levels(s);
+            Ok(answer::level_of(row[x.0]))
         }
     }
 }
@@ -69,8 +66,6 @@ pub fn conveyed_power(
 {
     match asked? {
         None => Ok(None),
-        Some(d) => {
-            Ok(answer::level_of(evaluation::conveyed::conveyed_power(*evaluation, d)))
-        }
+        Some(d) => Ok(answer::level_of(evaluation.conveyed_power(d))),
     }
 }

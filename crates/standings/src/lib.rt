@@ -24,7 +24,7 @@ pub fn standing(
 {
     match asked? {
         None => Ok(None),
-        Some(d) => Ok(Some(evaluation::standing::standing_of(*evaluation, d))),
+        Some(d) => Ok(Some(evaluation.standing_of(d))),
     }
 }
 
@@ -40,13 +40,10 @@ pub fn is_live(
 {
     match asked? {
         None => Ok(false),
-        Some(d) => {
-            let standing = evaluation::standing::standing_of(*evaluation, d);
-            match standing {
-                Standing::Live => Ok(true),
-                Standing::Revoked => Ok(false),
-                Standing::Unsupported => Ok(false),
-            }
-        }
+        Some(d) => match evaluation.standing_of(d) {
+            Standing::Live => Ok(true),
+            Standing::Revoked => Ok(false),
+            Standing::Unsupported => Ok(false),
+        },
     }
 }

@@ -8,7 +8,6 @@ use native.Mathlib.Omega.{arith}
 use native.Mathlib.Decide.{ℕ_discrete, dec_lt}
 use lib.ListN.{get_or}
 use Rattle.keyset.specs.Word.{bit}
-use Rattle.places.specs.Limits.{delegation_limit}
 use Rattle.rules.specs.Rules.{Answer, LiveCovered, LiveUncovered, Live, Avoiding, PreFixed}
 use Rattle.rules.proofs.Derivations.Answers.{Under, answer_carry}
 use Rattle.rules.proofs.Derivations.Monotone.{mono}
@@ -23,7 +22,7 @@ use Rattle.coverage.specs.Arrays.{Below}
 use Rattle.coverage.specs.Places.{places, Fit, Grades, Over}
 use Rattle.coverage.specs.Coverage.{Nets}
 use Rattle.coverage.specs.Contexts.{Through, Put, Grouped, Agreeing}
-use Rattle.coverage.specs.Lives.{Lives, Starts}
+use Rattle.coverage.specs.Lives.{Lives}
 use Rattle.caps.specs.Caps.{Alive, excluding, Raised, Lifted, level_at, Capped}
 use Rattle.coverage.specs.declared.Facts.{Facts}
 use Rattle.coverage.proofs.Laws.Put.{put_map}
@@ -105,9 +104,6 @@ pub record Rising (e : Facts) (grades : List ℕ) : Type 0 where
   pub lives : Lives e grades
   pub below : least.Below (places e) (level_at grades)
 
-pub rising_start : {e : Facts} {grades : List ℕ} → Starts e grades → Rising e grades
-rising_start {e} {grades} S = record { lives = S.lives; below = λ κ p d v. pred_le (get_or grades d 0) (κ d) (let z = S.relay d v in omega arith) }
-
 -- those that live are the same in every round
 pub record Living (e : Facts) (excluded : List ℕ) (living : ℕ) : Type 0 where
   pub only : (j : ℕ) → bit living j ≡ 1 → (get_or e.target j 0 < e.delegations) × (0 < get_or excluded (get_or e.target j 0) 0) × Live (places e) (get_or e.target j 0)
@@ -118,9 +114,6 @@ living_is {e} {excluded} {grades} L W = record {
   only = λ j b. let a = (W.only j b).is in (a.held, a.covered, L.yes _ a.live);
   has = λ j h p v. W.has j (record { lt = h; is = record { held = live_held v; covered = p; live = L.no _ v } });
 }
-
-pub living_within : {e : Facts} {excluded : List ℕ} {living : ℕ} → Fit e → Living e excluded living → (j : ℕ) → bit living j ≡ 1 → get_or e.target j 0 < delegation_limit
-living_within fit L j b = omega (arith, (L.only j b).0, fit.delegations_le)
 
 module _ (e : Facts) (excluded : List ℕ) (fit : Fit e) (NN : Nets e excluded) (count : ℕ) (exclude members : List ℕ)
     (G : Grouped e.target excluded e.revocations e.delegations count exclude members) (living : ℕ) (Lv : Living e excluded living) (grades : List ℕ) (I : Rising e grades) where
@@ -194,10 +187,10 @@ module _ (e : Facts) (excluded : List ℕ) (fit : Fit e) (NN : Nets e excluded) 
 
     -- ---- the end: nothing rose
 
-    module _ (same : (d : ℕ) → d < delegation_limit → get_or next d 0 ≡ get_or grades d 0) where
+    module _ (same : next ≡ grades) where
       settled : (d : ℕ) → LiveCovered (places e) d → Raised (seen e grades (get_or excluded d 0)) e.power d (get_or grades d 0)
       settled d v =
-          subst (λ (y : ℕ). Raised (seen e grades (get_or excluded d 0)) e.power d y) (same d (omega (arith, live_held (inr v), fit.delegations_le))) (raised d v)
+          subst (λ (y : List ℕ). Raised (seen e grades (get_or excluded d 0)) e.power d (get_or y d 0)) same (raised d v)
 
       pre : PreFixed (places e) (level_at grades)
       pre = record {

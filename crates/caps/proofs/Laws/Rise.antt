@@ -1,10 +1,11 @@
 -- Rounds of caps end: the grades' sum rises, and has a bound. Assumes nothing.
 use Prim.Native.Nat.{ℕ, zero, suc, ◌+◌, ◌-◌, ◌*◌, ◌≤◌, ◌<◌}
-use mathlib.Core.Path.{◌≡◌, subst}
+use mathlib.Core.Path.{◌≡◌, sym, ◌∙◌, subst}
 use mathlib.Core.List.{List}
 use native.Mathlib.Omega.{arith}
 use native.Mathlib.Decide.{dec_lt}
-use lib.ListN.{get_or}
+use lib.ListN.{get_or, length}
+use Rattle.std.proofs.lemmas.List.{ext_get_or}
 use Rattle.places.specs.Limits.{delegation_limit, level_count}
 
 unfoldable pub sum : ℕ → List ℕ → ℕ
@@ -37,7 +38,15 @@ sum_more (suc n) a b i h p q = go (λ l. sum_more n a b i h l q) (dec_lt i n)
 pub room : List ℕ → ℕ
 room g = delegation_limit * level_count - sum delegation_limit g
 
-pub room_less : (a b : List ℕ) (i : ℕ) → ((d : ℕ) → get_or a d 0 ≤ get_or b d 0) → ((d : ℕ) → get_or b d 0 ≤ level_count) → i < delegation_limit
-    → get_or a i 0 < get_or b i 0 → room b < room a
+pub room_less : (a b : List ℕ) → length a ≡ delegation_limit → length b ≡ delegation_limit → ((d : ℕ) → get_or a d 0 ≤ get_or b d 0)
+    → ((d : ℕ) → get_or b d 0 ≤ level_count) → (b ≡ a → ⊥) → room b < room a
 unfolding room
-room_less a b i h l p q = omega (arith, sum_more delegation_limit a b i h p q, sum_le delegation_limit b l)
+room_less a b p q h l n = go (dec_lt (sum delegation_limit a) (sum delegation_limit b))
+  where
+    same : sum delegation_limit b ≤ sum delegation_limit a → (i : ℕ) → i < length b → Dec (get_or a i 0 < get_or b i 0) → get_or b i 0 ≡ get_or a i 0
+    same s i k (yes e) = absurd (let m = sum_more delegation_limit a b i h (omega arith) e in omega arith)
+    same s i k (no e) = let m = h i in omega (arith, e)
+
+    go : Dec (sum delegation_limit a < sum delegation_limit b) → room b < room a
+    go (yes s) = omega (arith, s, sum_le delegation_limit b l)
+    go (no s) = absurd (n (ext_get_or 0 b a (q ∙ sym p) (λ i k. same (omega (arith, s)) i k (dec_lt (get_or a i 0) (get_or b i 0)))))

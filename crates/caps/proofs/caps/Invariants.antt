@@ -4,8 +4,8 @@ use Rattle.caps.proofs.Laws.Rise.{room}
 use Rattle.caps.proofs.Laws.Caps.{Rising}
 use Rattle.caps.proofs.caps.Given as goal
 
-abbrev pub invariant-loop-grades : goal.invariant-loop-grades
-invariant-loop-grades l = Rising l.facts l.grades
+abbrev pub invariant-loop-facts : goal.invariant-loop-facts
+invariant-loop-facts l = Rising l.facts l.grades
 
-abbrev pub decreases-loop-grades : goal.decreases-loop-grades
-decreases-loop-grades l = room l.grades
+abbrev pub decreases-loop-facts : goal.decreases-loop-facts
+decreases-loop-facts l = room l.grades

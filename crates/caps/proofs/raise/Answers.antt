@@ -1,54 +1,12 @@
 -- `caps::raise` meets its contract. The loop's invariant: the caps of those that are no longer left are raised.
-use Prim.Native.Nat.{ℕ, ◌<◌, ◌+◌, min, max}
+use Prim.Native.Nat.{ℕ, ◌+◌, min, max}
 use mathlib.Core.Path.{◌≡◌, sym, ap, ◌∙◌}
 use native.Mathlib.Omega.{arith}
 use lib.ListN.{get_or}
-use Rattle.places.specs.Limits.{delegation_limit}
 use Rattle.search.specs.Levels.{height}
-use Rattle.coverage.proofs.Laws.Put.{putting_none, putting_all, putting_more, left_less}
+use Rattle.coverage.proofs.Laws.Put.{putting_all, putting_more, left_less}
 use Rattle.caps.proofs.raise.Invariants.{lift}
-use Rattle.caps.proofs.raise.Goals.{After-level-level, After-wide-d}
 use Rattle.caps.proofs.raise.Goals as goal
-
-place : (c : After-wide-d) → c.wide-d.result < delegation_limit
-place c = omega (arith, c.wide-d.ensures, c.requires.within.0 c.lowest-j.result (c.loop-left.invariant.1.left_in.within c.lowest-j.result c.lowest-j.ensures.1))
-
--- the byte that is read, at the delegation's own places
-level-is : (c : After-level-level) → let a = c.args in let d = c.wide-d.result in
-    c.level-level.result ≡ height a.found.now (get_or a.subject.now d 0) (get_or a.issuer.now d 0)
-level-is c =
-    let a = c.args in
-    c.level-level.ensures ∙ ap (λ (z : ℕ). height a.found.now z c.wide-in-loop-left.result) c.wide.ensures
-    ∙ ap (λ (z : ℕ). height a.found.now (get_or a.subject.now c.wide-d.result 0) z) c.wide-in-loop-left.ensures
-
-pub loop-left-init : goal.loop-left-init
-loop-left-init c =
-    let a = c.args in
-    (c.requires.within.1, putting_none a.members a.target.now (lift a.issuer.now a.subject.now a.power.now a.grades.now a.found.now) a.next.now)
-
-pub bounds-subject-d : goal.bounds-subject-d
-bounds-subject-d c = place (goal.at.bounds-subject-d c).After-wide-d
-
-pub bounds-issuer-d : goal.bounds-issuer-d
-bounds-issuer-d c = place (goal.at.bounds-issuer-d c).After-wide-d
-
-pub level-level-requires : goal.level-level-requires
-level-level-requires c = (
-  omega (arith, c.wide.ensures, c.requires.by_index_2 c.wide-d.result),
-  omega (arith, c.wide-in-loop-left.ensures, c.requires.by_index c.wide-d.result),
-)
-
-pub bounds-grades-d : goal.bounds-grades-d
-bounds-grades-d c = place (goal.at.bounds-grades-d c).After-wide-d
-
-pub bounds-power-d : goal.bounds-power-d
-bounds-power-d c = place (goal.at.bounds-power-d c).After-wide-d
-
-pub overflow_add-power : goal.overflow_add-power
-overflow_add-power c = omega (arith, c.requires.by_index_3 c.wide-d.result)
-
-pub bounds-next-d : goal.bounds-next-d
-bounds-next-d c = omega (arith, place (goal.at.bounds-next-d c).After-wide-d)
 
 pub loop-left-smaller : goal.loop-left-smaller
 loop-left-smaller c =
@@ -59,10 +17,14 @@ loop-left-preserved c =
     let a = c.args in
     let l = c.loop-left in
     let d = c.wide-d.result in
-    let v : c.most.result ≡ lift a.issuer.now a.subject.now a.power.now a.grades.now a.found.now d =
-    c.most.ensures ∙ ap (max (get_or a.grades.now d 0)) (c.least.ensures ∙ ap (min (get_or a.power.now d 0 + 1)) (level-is (goal.at.loop-left-preserved c).After-level-level)) in
+    let level : c.level-level.result ≡ height a.found.now (get_or a.subject.now d 0) (get_or a.issuer.now d 0) =
+    c.level-level.ensures ∙ ap (λ (z : ℕ). height a.found.now z c.wide-in-loop-left.result) c.wide.ensures
+    ∙ ap (λ (z : ℕ). height a.found.now (get_or a.subject.now d 0) z) c.wide-in-loop-left.ensures in
+    let v : c.max.result ≡ lift a.issuer.now a.subject.now a.power.now a.grades.now a.found.now d =
+    c.max.ensures ∙ ap (max (get_or a.grades.now d 0)) (c.min.ensures ∙ ap (min (get_or a.power.now d 0 + 1)) level) in
+    let named = c.requires.within.0 c.lowest-j.result (l.invariant.1.left_in.within c.lowest-j.result c.lowest-j.ensures.1) in
     let P = putting_more l.left c.without-left.result c.lowest-j.result l.invariant.1 c.lowest-j.ensures.1 c.without-left.ensures.0 c.without-left.ensures.1
-    d _ (sym c.wide-d.ensures) (omega (arith, place (goal.at.loop-left-preserved c).After-wide-d, l.invariant.0)) v in
+    d _ (sym c.wide-d.ensures) (omega (arith, c.wide-d.ensures, named, l.invariant.0)) v in
     (P.same ∙ c.requires.within.1, P)
 
 pub returns : goal.returns

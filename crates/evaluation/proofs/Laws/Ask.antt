@@ -6,7 +6,12 @@ use mathlib.Core.Logic.{inl, inr}
 use mathlib.Core.Option.{Option, some}
 use native.Mathlib.Omega.{arith}
 use native.Mathlib.Decide.{ℕ_discrete}
-use lib.ListN.{get_or}
+use mathlib.Core.Bool.{true, false}
+use lib.Dec.{eqb}
+use lib.ListN.{get_or, length, take}
+use Rattle.std.specs.List.{IsAnyAnswer}
+use Rattle.std.proofs.lemmas.List.{get_or-take, length-take}
+use Rattle.std.proofs.lemmas.Bool.{eqb-true, eqb-false}
 use Rattle.keyset.specs.Word.{bit}
 use Rattle.places.specs.Limits.{level_count}
 use Rattle.rules.specs.Rules.{Admin, Node, StandingIs, is_revoked, is_unsupported, revoked, unsupported, Nobody, Positive, Effective, Answer, absent, LiveCovered, LiveUncovered, Live, PositiveIs, EffectiveIs, ConveyedIs, Conveys, cap, plain, nothing}
@@ -150,6 +155,17 @@ module _ (e : Facts) (grades : List ℕ) (K : Capped e grades) where
         }
 
 -- ---- standing
+
+-- a search of the first m targets for d has told whether one of the first m revocations names it
+module _ (target : List ℕ) (m d : ℕ) where
+  pub named_found : IsAnyAnswer (λ y b. eqb y d ≡ b) (take m target) true → NamedBelow target m d
+  named_found a =
+      let lt : a.0 < m = omega (arith, a.1, length-take m target) in
+      record { place = a.0; lt = lt; is = sym (get_or-take m target a.0 0 lt) ∙ eqb-true _ _ (a.2 0) }
+
+  pub named_nowhere : m ≤ length target → IsAnyAnswer (λ y b. eqb y d ≡ b) (take m target) false → NamedBelow target m d → ⊥
+  named_nowhere h a n =
+      eqb-false _ _ (a n.place 0 (omega arith) (omega (arith, h, n.lt, length-take m target))) (get_or-take m target n.place 0 n.lt ∙ n.is)
 
 module _ (e : Facts) (grades : List ℕ) (K : Capped e grades) (d : ℕ) (held : d < e.delegations) (zero-grade : get_or grades d 0 ≡ 0) where
   dead : Live (places e) d → ⊥

@@ -1,24 +1,18 @@
 -- `evaluation::evaluate` meets its contract: stratum 1, then stratum 2. In the proof of a need, f is the function as it was called.
-use Prim.Native.Nat.{ℕ}
 use mathlib.Core.Path.{refl}
-use mathlib.Core.List.{List}
 use Rattle.rules.specs.Rules.{Positive}
 use Rattle.search.specs.Levels.{Found}
 use Rattle.search.proofs.Laws.Complete.{sound_zeros}
 use Rattle.coverage.specs.Places.{places}
 use Rattle.coverage.specs.Coverage.{Nets}
 use Rattle.coverage.proofs.Laws.Fill.{filled_map}
-use Rattle.coverage.proofs.Laws.Seek.{seen, ready, found_over, found_less}
+use Rattle.coverage.proofs.Laws.Seek.{seen, found_over, found_less}
 use Rattle.coverage.proofs.Laws.Cover.{net_is}
-use Rattle.evaluation.proofs.Laws.Ask.{grades_all, found_positive}
+use Rattle.evaluation.proofs.Laws.Ask.{found_positive}
 use Rattle.evaluation.proofs.evaluate.Goals.{After-coverage-excluded, After-search}
 use Rattle.evaluation.proofs.evaluate.Goals as goal
 
--- what the search found
-abbrev found-list : After-search → List ℕ
-found-list c = c.search.new.levels
-
--- is positive power
+-- what the search found is positive power
 positive : (c : After-search) → Found (Positive (places c.args.facts)) c.subjects-subjects.result (c.search.new.levels)
 positive c =
     let g = c.powers-all in
@@ -33,48 +27,14 @@ nets c =
     let e = c.args.facts in
     found_positive e c.requires g.result g.ensures (found_over e g.result 0 (found_less c.subjects-subjects.result c.search.result c.search.ensures.1 c.search.ensures.0))) d h _ (c.revokers-revokers.ensures.is d h) w X) c.coverage-excluded.ensures
 
-pub subjects-subjects-requires : goal.subjects-subjects-requires
-subjects-subjects-requires c = (c.requires.delegations_le, c.requires.subject_lt)
+pub search-requires-clause-sound : goal.search-requires-clause-sound
+search-requires-clause-sound c = sound_zeros (seen c.args.facts c.powers-all.result 0)
 
-pub index-edges-requires : goal.index-edges-requires
-index-edges-requires c = (c.requires.delegations_le, c.requires.issuer_lt, c.requires.subject_lt)
+pub live_set-live-requires-clause-revokers_by : goal.live_set-live-requires-clause-revokers_by
+live_set-live-requires-clause-revokers_by c = (c.revokers-revokers.ensures, nets (goal.at.live_set-live-requires-clause-revokers_by c).After-coverage-excluded)
 
-pub powers-all-requires : goal.powers-all-requires
-powers-all-requires c = (c.requires.delegations_le, c.requires.power_le)
-
-pub search-requires : goal.search-requires
-search-requires c =
-    let g = c.powers-all in
-    let e = c.args.facts in record {
-      ready = ready e g.result 0 c.requires (grades_all e c.requires g.result g.ensures) c.index-edges.ensures c.subjects-subjects.ensures;
-      sound = sound_zeros (seen e g.result 0);
-      levels_len = refl;
-    }
-
-pub revokers-revokers-requires : goal.revokers-revokers-requires
-revokers-revokers-requires c = (c.requires.revocations_le, c.requires.delegations_le, c.requires.revoker_lt)
-
-pub coverage-excluded-requires : goal.coverage-excluded-requires
-coverage-excluded-requires c = (c.requires.delegations_le, c.requires.subject_lt)
-
-pub contexts-contexts-requires : goal.contexts-contexts-requires
-contexts-contexts-requires c = (c.requires.revocations_le, c.requires.delegations_le)
-
-pub live_set-live-requires : goal.live_set-live-requires
-live_set-live-requires c = record {
-  fit = (c.requires, c.subjects-subjects.ensures);
-  indexed = c.index-edges.ensures;
-  revokers_by = (c.revokers-revokers.ensures, nets (goal.at.live_set-live-requires c).After-coverage-excluded);
-  grouped = c.contexts-contexts.ensures;
-}
-
-pub caps-grades-requires : goal.caps-grades-requires
-caps-grades-requires c = record {
-  fit = (c.requires, c.subjects-subjects.ensures);
-  indexed = c.index-edges.ensures;
-  nets = (nets (goal.at.caps-grades-requires c).After-coverage-excluded, c.contexts-contexts.ensures);
-  starts = c.live_set-live.ensures;
-}
+pub caps-grades-requires-clause-nets : goal.caps-grades-requires-clause-nets
+caps-grades-requires-clause-nets c = (nets (goal.at.caps-grades-requires-clause-nets c).After-coverage-excluded, c.contexts-contexts.ensures)
 
 pub returns : goal.returns
 returns c = (

@@ -9,7 +9,7 @@ use native.Mathlib.Decide.{dec_lt}
 use lib.ListN.{get_or, length}
 use Rattle.keyset.specs.Word.{bit, size}
 use Rattle.keyset.proofs.Laws.{bit_le, bit_two, bit_none, size_more, some_member}
-use Rattle.places.specs.Limits.{delegation_limit, revocation_limit, level_count}
+use Rattle.places.specs.Limits.{delegation_limit, revocation_limit}
 use Rattle.rules.specs.Rules.{Nobody, Excluded, Uncovered, Eligible, Reached, Usable, LiveCovered, LiveUncovered, Live}
 use Rattle.rules.proofs.Derivations.Monotone.{mono, reach}
 use Rattle.rules.proofs.Evaluation.LiveSet.{live_in, live_set, live_held}
@@ -17,7 +17,7 @@ use Rattle.search.specs.Sets.{Says, Word}
 use Rattle.search.specs.Levels.{Found}
 use Rattle.search.proofs.Laws.Answer.{found_only, found_has}
 use Rattle.coverage.specs.Arrays.{Below, Filled}
-use Rattle.coverage.specs.Places.{places, Fit, Grades, Subject, Over}
+use Rattle.coverage.specs.Places.{places, Fit, Subject, Over}
 use Rattle.coverage.specs.Coverage.{RevokersBy, Nets}
 use Rattle.coverage.specs.Contexts.{Put, Grouped, In}
 use Rattle.coverage.specs.Lives.{Starts}
@@ -136,21 +136,8 @@ module _ (e : Facts) (excluded : List ℕ) (fit : Fit e) (NN : Nets e excluded) 
         go (yes q) = inr (U.live d p q)
         go (no n) = inl (uncovered e excluded NN d (U.value d p).0 (let z : get_or excluded d 0 ≡ 0 = omega (arith, n) in z))
 
-    pub grades_usable : Grades e grades
-    grades_usable = record { len = U.len; le = λ d. le d (dec_lt 0 (get_or grades d 0)); held = λ d p. (U.value d p).0 }
-      where
-        le : (d : ℕ) → Dec (0 < get_or grades d 0) → get_or grades d 0 ≤ level_count
-        le d (yes p) = omega (arith, (U.value d p).1, fit.power_le d)
-        le d (no n) = omega (arith, n)
-
     pub plain_grade : {d : ℕ} → Uncovered (places e) d → 0 < get_or grades d 0
     plain_grade {d} u = omega (arith, U.plain d u.held (plain_net e excluded NN u))
-
-    pub waiting_within : (j : ℕ) → bit waiting j ≡ 1 → get_or e.target j 0 < delegation_limit
-    waiting_within j b = let a = U.within j b in omega (arith, a.1.covered.held, fit.delegations_le)
-
-    pub waiting_about : {subjects : ℕ} → Word subjects (Subject e) → (j : ℕ) → bit waiting j ≡ 1 → bit subjects (get_or e.subject (get_or e.target j 0) 0) ≡ 1
-    waiting_about W j b = root_of e W _ (U.within j b).1.covered.held
 
     -- ---- one round
 
@@ -169,9 +156,6 @@ module _ (e : Facts) (excluded : List ℕ) (fit : Fit e) (NN : Nets e excluded) 
           let a = G.all j u.0 el.covered.held (covered_net e excluded NN el.covered) in
           let p = G.member a.0 j a.1 a.2 in
           N.has j (record { context = a.0; lt = a.1; member = a.2; is = (b, subst (λ (y : ℕ). Judged (seen e grades y) (get_or e.target j 0)) p.3 r) })
-
-      pub newly_within : (j : ℕ) → bit newly j ≡ 1 → get_or e.target j 0 < delegation_limit
-      newly_within j b = waiting_within j (joins j b).0
 
       joins_live : (j : ℕ) → bit newly j ≡ 1 → LiveCovered (places e) (get_or e.target j 0)
       joins_live j b =

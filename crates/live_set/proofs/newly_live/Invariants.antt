@@ -1,5 +1,5 @@
 -- `live_set::newly_live` meets its contract. The loop's invariant: w has what the first c contexts judge.
-use Prim.Native.Nat.{ℕ, ◌≤◌, ◌-◌}
+use Prim.Native.Nat.{ℕ}
 use mathlib.Core.List.{List}
 use lib.ListN.{get_or}
 use Rattle.search.specs.Sets.{Word}
@@ -15,7 +15,4 @@ Judges exclude target issuer audience subject grades c j = Judged (graph issuer 
 
 abbrev pub invariant-loop-c : goal.invariant-loop-c
 invariant-loop-c l =
-    (l.c ≤ l.count) × Word l.w (In l.c l.contexts (Joining l.contexts l.candidates (Judges l.exclude l.target l.issuer l.audience l.subject l.grades)))
-
-abbrev pub decreases-loop-c : goal.decreases-loop-c
-decreases-loop-c l = l.count - l.c
+    Word l.w (In l.c l.contexts (Joining l.contexts l.candidates (Judges l.exclude l.target l.issuer l.audience l.subject l.grades)))

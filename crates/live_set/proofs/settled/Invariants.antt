@@ -1,11 +1,7 @@
 -- `live_set::settled` meets its contract. The loop's invariant: the grades of the first d delegations stand.
-use Prim.Native.Nat.{◌≤◌, ◌-◌}
 use Rattle.coverage.specs.Arrays.{Filled}
 use Rattle.live_set.specs.Live.{SettledAt}
 use Rattle.live_set.proofs.settled.Given as goal
 
 abbrev pub invariant-loop-d : goal.invariant-loop-d
-invariant-loop-d l = (l.d ≤ l.n) × Filled l.d (SettledAt l.issuer l.subject l.excluded l.grades l.base) l.g
-
-abbrev pub decreases-loop-d : goal.decreases-loop-d
-decreases-loop-d l = l.n - l.d
+invariant-loop-d l = Filled l.d (SettledAt l.issuer l.subject l.excluded l.grades l.base) l.g

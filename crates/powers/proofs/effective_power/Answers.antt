@@ -21,8 +21,8 @@ levels-row-requires c =
     let r = g.store.keys.room in
     (g.evaluation, omega arith)
 
-pub bounds-row-k : goal.bounds-row-k
-bounds-row-k c =
+pub bounds-row-x : goal.bounds-row-x
+bounds-row-x c =
     let g = c.requires.0 in
     let a = pair_at_lem c.requires.1 (c.in_ok-asked.was ∙ ap Ok c.in-At.is) in
     let k = a.audience_in in

@@ -10,8 +10,8 @@ use Rattle.standings.proofs.is_live.Goals as goal
 use mathlib.Core.Path.{ap, ◌∙◌}
 use Rattle.std.specs.Prelude.{Ok, Err}
 
-pub standing_of-standing-requires : goal.standing_of-standing-requires
-standing_of-standing-requires c =
+pub standing_of-requires : goal.standing_of-requires
+standing_of-requires c =
     let g = c.requires.0 in
     let a = delegation_at_place c.requires.1 (c.in_ok-asked.was ∙ ap Ok c.in-Some.is) in
     (g.evaluation, rw g.facts.delegations a.within)
@@ -35,7 +35,7 @@ returns-in-Live c =
     let st = s.store.now in
     let x = s.digest.now in
     let a = delegation_at_place c.requires.1 (c.in_ok-asked.was ∙ ap Ok c.in-Some.is) in
-    let t = standing_bytes (table st g.store s.evaluation.now.facts g.facts) (rw g.facts.delegations a.within) (rw c.in-Live.is at c.standing_of-standing.ensures) in
+    let t = standing_bytes (table st g.store s.evaluation.now.facts g.facts) (rw g.facts.delegations a.within) (rw c.in-Live.is at c.standing_of.ensures) in
     says.live a.long (is_held st g.store x c.in-Some.d a) (rw (with_is st g.store x c.in-Some.d a) (lives t))
 
 pub returns-in-Revoked : goal.returns-in-Revoked
@@ -45,7 +45,7 @@ returns-in-Revoked c =
     let st = s.store.now in
     let x = s.digest.now in
     let a = delegation_at_place c.requires.1 (c.in_ok-asked.was ∙ ap Ok c.in-Some.is) in
-    let t = standing_bytes (table st g.store s.evaluation.now.facts g.facts) (rw g.facts.delegations a.within) (rw c.in-Revoked.is at c.standing_of-standing.ensures) in
+    let t = standing_bytes (table st g.store s.evaluation.now.facts g.facts) (rw g.facts.delegations a.within) (rw c.in-Revoked.is at c.standing_of.ensures) in
     says.dead a.long (is_held st g.store x c.in-Some.d a) (rw (with_is st g.store x c.in-Some.d a) (dies_revoked t))
 
 pub returns-in-Unsupported : goal.returns-in-Unsupported
@@ -55,5 +55,5 @@ returns-in-Unsupported c =
     let st = s.store.now in
     let x = s.digest.now in
     let a = delegation_at_place c.requires.1 (c.in_ok-asked.was ∙ ap Ok c.in-Some.is) in
-    let t = standing_bytes (table st g.store s.evaluation.now.facts g.facts) (rw g.facts.delegations a.within) (rw c.in-Unsupported.is at c.standing_of-standing.ensures) in
+    let t = standing_bytes (table st g.store s.evaluation.now.facts g.facts) (rw g.facts.delegations a.within) (rw c.in-Unsupported.is at c.standing_of.ensures) in
     says.dead a.long (is_held st g.store x c.in-Some.d a) (rw (with_is st g.store x c.in-Some.d a) (dies_unsupported t))
