@@ -6,8 +6,9 @@ use crate::fields::{Fields, Run};
 use crate::frame::Line;
 use crate::tally::Tally;
 use crate::{fields, marks};
-use answers::answer::Stood;
 use keyline::limits::{CITED_LENGTH, KEY_LENGTH};
+use keyline::refusal::Refusal;
+use keyline::standing::Standing;
 
 // What lookup buffers are filled with before the call.
 const BEFORE: u8 = 165;
@@ -39,14 +40,15 @@ impl<'a> Delegation<'a> {
     }
 
     // A held delegation's standing follows from its line: a dead one is revoked if a revocation is marked, else unsupported.
-    fn stands(&self, found: Stood) -> bool {
-        let revoked = self.named.contains(&b'1');
-        match found {
-            Stood::Live => self.live,
-            Stood::Revoked => !self.live && revoked,
-            Stood::Unsupported => !self.live && !revoked,
-            Stood::Absent | Stood::Refused(_) => false,
-        }
+    fn stands(&self, found: Result<Option<Standing>, Refusal>) -> bool {
+        let standing = if self.live {
+            Standing::Live
+        } else if self.named.contains(&b'1') {
+            Standing::Revoked
+        } else {
+            Standing::Unsupported
+        };
+        found == Ok(Some(standing))
     }
 }
 
@@ -181,7 +183,7 @@ impl Block<'_> {
         );
         tally.compare(self.is_absent(digest), at, "lookup");
         tally.compare(!self.evaluation.is_live(digest), at, "is_live");
-        let is_absent = matches!(self.evaluation.standing(digest), Stood::Absent);
+        let is_absent = self.evaluation.standing(digest) == Ok(None);
         tally.compare(is_absent, at, "standing");
         let conveyed = self.evaluation.conveyed_power(digest);
         tally.compare(conveyed == Some(b'.'), at, "conveyed_power");

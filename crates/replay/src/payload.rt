@@ -65,10 +65,10 @@ impl<'a> Said<'a> {
     fn decodes(&self, payload: &[u8]) -> bool {
         match (kernel::decode(payload), *self) {
             (Err(why), Said::Refused(number, beside)) => {
-                refusal::number(why) as usize == number && refusal::beside(why) == beside
+                usize::from(why.number()) == number && why.beside() == beside
             }
             (Ok((power, cited)), Said::Accepted(letter, citation)) => {
-                letter == [power_levels::power::byte(power)].as_slice()
+                letter == [power.byte()].as_slice()
                     && citation.is_some() == cited
             }
             _ => false,
