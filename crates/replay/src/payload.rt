@@ -2,7 +2,6 @@
 use crate::fields::{Fields, Run};
 use crate::tally::Tally;
 use crate::{fields, kernel};
-use keyline::refusal;
 
 // The longest payload that is taken.
 const ROOM: usize = 2048;
