@@ -71,8 +71,8 @@ pub intern-i-requires : goal.intern-i-requires
 intern-i-requires c =
     can_intern c.args.store.now.keys.table c.args.store.now.keys.count c.args.store.now.good.keys c.args.issuer.now (others c.args.payload.now) (facts (goal.at.intern-i-requires c).Else-not-is_added).issuer (room (goal.at.intern-i-requires c).Else-not-is_added)
 
-pub slice_bounds-intern-end : goal.slice_bounds-intern-end
-slice_bounds-intern-end c = let q = (part (goal.at.slice_bounds-intern-end c).Else-not-is_added).long in omega arith
+pub slice_bounds-intern-end-3 : goal.slice_bounds-intern-end-3
+slice_bounds-intern-end-3 c = let q = (part (goal.at.slice_bounds-intern-end-3 c).Else-not-is_added).long in omega arith
 
 pub intern-a-requires : goal.intern-a-requires
 unfolding others
@@ -81,8 +81,8 @@ intern-a-requires c =
     let i = c.intern-i in
     can_intern i.new.table i.result.count i.ensures.good (take key_length p) (take key_length (drop key_length p) ∷ []) (part (goal.at.intern-a-requires c).Else-not-is_added).audience (room-2 (goal.at.intern-a-requires c).After-intern-i (facts (goal.at.intern-a-requires c).Else-not-is_added).issuer (room (goal.at.intern-a-requires c).Else-not-is_added))
 
-pub slice_bounds-intern-end-2 : goal.slice_bounds-intern-end-2
-slice_bounds-intern-end-2 c = let q = (part (goal.at.slice_bounds-intern-end-2 c).Else-not-is_added).long in omega arith
+pub slice_bounds-intern-end-5 : goal.slice_bounds-intern-end-5
+slice_bounds-intern-end-5 c = let q = (part (goal.at.slice_bounds-intern-end-5 c).Else-not-is_added).long in omega arith
 
 pub intern-u-requires : goal.intern-u-requires
 unfolding others
