@@ -67,8 +67,8 @@ pub extern "C" fn keyline_run(
         }
         Ran::Refused(r) => {
             *used = 0;
-            *beside = keyline::refusal::beside(r);
-            keyline::refusal::number(r)
+            *beside = r.beside();
+            r.number()
         }
     }
 }

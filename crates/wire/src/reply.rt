@@ -30,8 +30,8 @@ pub fn valued(first: usize) -> Reply
 fn refused(why: Refusal) -> Reply
     ensures { result ≡ refused why }
 {
-    let number = keyline::refusal::number(why);
-    let first = keyline::refusal::beside(why);
+    let number = why.number();
+    let first = why.beside();
     Reply {
         number,
         first,
@@ -114,7 +114,7 @@ pub fn powered(answer: Powered) -> Reply
 {
     match answer {
         Powered::Level(p) => {
-            let byte = power_levels::power::byte(p);
+            let byte = p.byte();
             valued(byte as usize)
         }
         Powered::Nothing => valued(0),
