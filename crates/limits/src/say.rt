@@ -29,8 +29,8 @@ pub(crate) fn byte(word: &[u8], b: u8) {
 }
 
 fn refusal(r: Refusal) {
-    byte(b": refused ", keyline::refusal::number(r));
-    number(b" beside ", keyline::refusal::beside(r));
+    byte(b": refused ", r.number());
+    number(b" beside ", r.beside());
 }
 
 pub(crate) fn answer(a: Answer) {
@@ -49,7 +49,7 @@ pub(crate) fn contained(c: Contained) {
 }
 
 fn power(p: Power) {
-    byte(b": level ", power_levels::power::rank(p));
+    byte(b": level ", p.rank());
 }
 
 pub(crate) fn powered(p: Powered) {

@@ -21,7 +21,7 @@ pub(crate) fn letter(p: Powered) -> u8 {
     match p {
         Powered::Nothing => b'.',
         Powered::Refused(_) => b'!',
-        Powered::Level(level) => power_levels::power::byte(level),
+        Powered::Level(level) => level.byte(),
     }
 }
 

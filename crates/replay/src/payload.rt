@@ -1,7 +1,6 @@
 // The line p: a payload and what the reader says of it.
 use crate::fields;
 use crate::tally::Tally;
-use codec::delegation::Decoded;
 use keyline::limits::DIGEST_LENGTH;
 use keyline::refusal::Refusal;
 use power_levels::power::Power;
@@ -64,22 +63,21 @@ fn is_accepted(line: &[u8]) -> bool {
 }
 
 fn decodes(line: &[u8], payload: &[u8]) -> bool {
-    let found = codec::delegation::decode(payload);
-    match found {
-        Decoded::Refused(why) => refuses(line, why),
-        Decoded::Accepted(power, cited) => accepts(line, power, cited),
+    match codec::delegation::decode(payload) {
+        Err(why) => refuses(line, why),
+        Ok(found) => accepts(line, found.power, found.citation.len() != 0),
     }
 }
 
 fn refuses(line: &[u8], why: Refusal) -> bool {
-    let number = fields::number(fields::field(line, 2)) == keyline::refusal::number(why) as usize;
-    let beside = fields::number(fields::field(line, 3)) == keyline::refusal::beside(why);
+    let number = fields::number(fields::field(line, 2)) == why.number() as usize;
+    let beside = fields::number(fields::field(line, 3)) == why.beside();
     number & beside
 }
 
 fn accepts(line: &[u8], power: Power, cited: bool) -> bool {
     let accepted = fields::is(fields::field(line, 2), b'0');
-    let level = fields::is(fields::field(line, 3), power_levels::power::byte(power));
+    let level = fields::is(fields::field(line, 3), power.byte());
     let absent = fields::is(fields::field(line, 4), b'-');
     accepted & level & (absent != cited)
 }
