@@ -10,13 +10,12 @@ use native.Mathlib.Omega.{arith}
 use lib.ListN.{length, length-append}
 use lib.Dec.{ltb, eqb}
 use borrow.Author.Tests.{eqb-true}
+use Rattle.std.specs.Prelude.{Result, Ok, Err}
 use Rattle.keyline.specs.Limits.{key_length, digest_length, key_limit, delegation_limit, revocation_limit}
 use Rattle.power_levels.specs.Power.{rank_of}
 use Rattle.power_levels.proofs.Levels.{same_rank}
-use Rattle.codec.specs.Delegation.{decoded}
+use Rattle.codec.specs.Delegation.{Found, found, decoded}
 use Rattle.power_levels.specs.declared.power.Power.{Power}
-use Rattle.codec.specs.declared.delegation.Decoded.{Decoded}
-use Rattle.codec.specs.declared.delegation.Decoded.TheVariants as reading
 use Rattle.keyline.specs.declared.refusal.Refusal.{Refusal}
 use Rattle.keyline.specs.declared.refusal.Refusal.TheVariants.{FullDelegations, FullRevocations, FullKeys}
 use Rattle.runs.specs.Bytes.{Bytes, eq_bytes}
@@ -40,7 +39,7 @@ pub record Reads (d i p : Bytes) (g : Delegation) : Type 0 where
   pub issuer : length i ≡ key_length
   pub power : Power
   pub tag : Bool
-  pub read : decoded p ≡ reading.Accepted power tag
+  pub read : decoded p ≡ Ok (found power tag)
   pub is : g ≡ delegation_from d i p power
 
 pub record Names (d i x : Bytes) (r : Revocation) : Type 0 where
@@ -121,7 +120,7 @@ record KnownDelegation (v : Seen Delegation) (d i p : Bytes) : Type 0 where
   pub issuer : length i ≡ key_length
   pub power : Power
   pub tag : Bool
-  pub read : decoded p ≡ reading.Accepted power tag
+  pub read : decoded p ≡ Ok (found power tag)
   pub held : v.held ≡ true
   pub same : same_content v.other (delegation_from d i p power) ≡ true
 
@@ -132,9 +131,9 @@ delegation_known v d i p h =
     let b = passed (eqb (length i) key_length) _ _ a.1 in
     go (decoded p) refl (eqb-true (length d) digest_length a.0) (eqb-true (length i) key_length b.0) b.1
   where
-    go : (r : Decoded) → decoded p ≡ r → length d ≡ digest_length → length i ≡ key_length → payload_answer r v d i p ≡ NotAdded → KnownDelegation v d i p
-    go (reading.Refused r) e x y k = absurd (not_refused_lem k)
-    go (reading.Accepted w t) e x y k =
+    go : (r : Result Found Refusal) → decoded p ≡ r → length d ≡ digest_length → length i ≡ key_length → payload_answer r v d i p ≡ NotAdded → KnownDelegation v d i p
+    go (Err r) e x y k = absurd (not_refused_lem k)
+    go (Ok (found w t)) e x y k =
         let g = delegation_from d i p w in
         let q = held_content v.held (same_content v.other g) (ltb v.count delegation_limit) (keys_answer v.keys (delegation_keys g)) FullDelegations (never_keys v.keys (delegation_keys g)) k in
         record { digest = x; issuer = y; power = w; tag = t; read = e; held = q.0; same = q.1 }
@@ -169,7 +168,7 @@ module _ (c : Committed) (b : Built c) where
           let q = delegation_added_lem (seen_delegation c d) d i p e in
           let g = delegation_from d i p q.power in
           let r : Reads d i p g = record { digest = q.digest; issuer = q.issuer; power = q.power; tag = q.tag; read = q.read; is = refl } in
-          subst (λ (y : Decoded). Entry c (delegation d i p) (with_delegation c (read_delegation y d i p))) (sym q.read) (new_delegation r q.new q.room q.keys)
+          subst (λ (y : Result Found Refusal). Entry c (delegation d i p) (with_delegation c (read_delegation y d i p))) (sym q.read) (new_delegation r q.new q.room q.keys)
       go NotAdded e k =
           let q = delegation_known (seen_delegation c d) d i p e in
           let g = delegation_from d i p q.power in
@@ -231,7 +230,7 @@ only_revocations {c} {k = k} (new_revocation {r = q} r n l s) v m = elim (one_mo
 one_reading : {d i p : Bytes} {g h : Delegation} → Reads d i p g → Reads d i p h → g ≡ h
 one_reading {d} {i} {p} r q = let e : r.power ≡ q.power = same_power (sym r.read ∙ q.read) in r.is ∙ ap (delegation_from d i p) e ∙ sym q.is
   where
-    same_power : {w u : Power} {s t : Bool} → reading.Accepted w s ≡ reading.Accepted u t → w ≡ u
+    same_power : {w u : Power} {s t : Bool} → ◌≡◌ {A = Result Found Refusal} (Ok (found w s)) (Ok (found u t)) → w ≡ u
     same_power e = cc
 
 pub one_saying : {k : Certificate} {g h : Delegation} → SaysDel k g → SaysDel k h → g ≡ h

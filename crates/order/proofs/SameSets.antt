@@ -10,15 +10,15 @@ use mathlib.Core.List.Memᴰ
 use mathlib.Core.List.{List, [], ◌∷◌, ◌++◌, map, Memᴰ}
 use native.Mathlib.Omega.{arith}
 use lib.ListN.{length, get_or, length-map}
+use Rattle.std.specs.Prelude.{Result, Ok, Err}
 use Rattle.rules.specs.Rules.{Admin, Nobody, d1, Standing, Closure, Live, ConveyedIs, StandingIs}
 use Rattle.rules.specs.OneClosure.{ListedIn, RestsOnClosure}
 use Rattle.rules.proofs.Derivations.Monotone.{mono}
 use Rattle.rules.proofs.Evaluation.Listing.{lists_same}
 use Rattle.rules.proofs.Stores.OneClosure as rules
 use Rattle.power_levels.specs.Power.{rank_of}
-use Rattle.codec.specs.Delegation.{decoded}
-use Rattle.codec.specs.declared.delegation.Decoded.{Decoded}
-use Rattle.codec.specs.declared.delegation.Decoded.TheVariants as reading
+use Rattle.codec.specs.Delegation.{Found, found, decoded}
+use Rattle.keyline.specs.declared.refusal.Refusal.{Refusal}
 use Rattle.runs.specs.Bytes.{Bytes}
 use Rattle.runs.specs.Members.{has, place, Distinct, SameRuns}
 use Rattle.runs.proofs.MemberLaws.{mem_has, has_mem, has_not, same_long}
@@ -141,10 +141,10 @@ module _ (A B : Committed) (a : Built A) (b : Built B) (same : SameHeld A B) whe
   revocation_count = same_count (λ v. v.digest) no_revocation A.revocations B.revocations (λ v. (same.revocations v).0) (λ v. (same.revocations v).1) a.revocations b.revocations
 
   -- ## The next insertion
-  paid_same : (r : Decoded) (d i p : Bytes) → payload_answer r (seen_delegation A d) d i p ≡ payload_answer r (seen_delegation B d) d i p
+  paid_same : (r : Result Found Refusal) (d i p : Bytes) → payload_answer r (seen_delegation A d) d i p ≡ payload_answer r (seen_delegation B d) d i p
   unfolding accepted_answer
-  paid_same (reading.Refused r) d i p = refl
-  paid_same (reading.Accepted w t) d i p = rw (delegation_has d, delegation_with_lem d, delegation_count, room_same (delegation_keys (delegation_from d i p w)))
+  paid_same (Err r) d i p = refl
+  paid_same (Ok (found w t)) d i p = rw (delegation_has d, delegation_with_lem d, delegation_count, room_same (delegation_keys (delegation_from d i p w)))
 
   next_same : (k : Certificate) → answer_to A k ≡ answer_to B k
   unfolding answer_to delegation_check revocation_check revocation_settled
