@@ -2,7 +2,6 @@
 ghost use Rattle.keyline_memory.specs.State.{GoodState};
 
 use crate::say;
-use codec::delegation::Encoded;
 use keyline::limits::CITED_LENGTH;
 use keyline_memory::state::{Inserted, State};
 use notation::statement::Statement;
@@ -19,11 +18,11 @@ pub(crate) fn delegation(state: State, s: Statement, number: usize) -> State
     let mut payload = [0u8; CITED_LENGTH];
     let written = codec::delegation::encode(&audience, &subject, s.level, b"", &mut payload);
     match written {
-        Encoded::Refused(why) => {
+        Err(why) => {
             refused(why, number);
             state
         }
-        Encoded::Bytes(n) => {
+        Ok(n) => {
             let r = insert(state, &digest, &issuer, &payload, n);
             let answer = r.answer;
             told(answer, number);

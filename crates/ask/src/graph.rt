@@ -164,7 +164,7 @@ fn style(conveyed: Powered, stated: u8) {
 }
 
 fn capped(p: Power, stated: u8) {
-    if power_levels::power::byte(p) != stated {
+    if p.byte() != stated {
         say::text(b"\\nconveys ");
         say::level(p);
     }

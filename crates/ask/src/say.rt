@@ -51,7 +51,7 @@ pub(crate) fn at_line(line: usize) {
 // A refusal by its number in document 01's table, and in words.
 pub(crate) fn refused(why: Refusal) {
     text(b"refused ");
-    number(keyline::refusal::number(why) as usize);
+    number(why.number() as usize);
     text(b": ");
     reason(why);
 }
@@ -78,7 +78,7 @@ fn reason(why: Refusal) {
 }
 
 fn full(why: Refusal, what: &[u8]) {
-    counted(b"the store holds ", keyline::refusal::beside(why), what);
+    counted(b"the store holds ", why.beside(), what);
 }
 
 pub(crate) fn counted(before: &[u8], n: usize, after: &[u8]) {

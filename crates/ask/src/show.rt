@@ -5,7 +5,7 @@ use crate::say;
 use keyline::limits::{CITED_LENGTH, DIGEST_LENGTH, KEY_LENGTH, POWER_AT};
 use keyline_memory::state::State;
 use lookups::put::Looked;
-use power_levels::power::Level;
+use power_levels::power::Power;
 use text::words::part;
 
 pub(crate) fn delegation(state: State, digest: &[u8])
@@ -78,8 +78,8 @@ pub(crate) fn power(payload: &[u8]) -> u8 {
 }
 
 pub(crate) fn level_of(byte: u8) {
-    match power_levels::power::from_byte(byte) {
-        Level::Unknown => say::text(b"no level"),
-        Level::Is(p) => say::level(p),
+    match Power::try_from(byte) {
+        Err(_) => say::text(b"no level"),
+        Ok(level) => say::level(level),
     }
 }
