@@ -30,7 +30,7 @@ use Rattle.wire.specs.declared.operation.Operation.TheVariants as operation
 use Rattle.script.proofs.Measuring.{rest_lent}
 use mathlib.Core.Bool.{true, false}
 use Rattle.tables.specs.declared.answer.Outcome.{Outcome}
-use Rattle.std.specs.Prelude.{Result, Ok, Err}
+use Rattle.std.specs.Prelude.{Result, Ok, Err, Some, None}
 
 -- ---- lists
 drop_take : (m k : ℕ) (x : Bytes) → m ≤ length x → drop m (take (m + k) x) ≡ take k (drop m x)
@@ -162,14 +162,14 @@ module _ {s o₀ o : Bytes} {state : State} {evaluated : Evaluated} {at done : �
       let e : done_after done q - done ≡ needs q = omega arith in
       record { is = x.is; within = x.within; long = rw e (length-take-le (needs q) (drop done o) (rw (length-drop done o) f)); other = x.other }
 
-  changed : {later : State} {y : Bytes} {w : Change} → q.operation ≡ operation.Change w → length y ≡ needs q
+  changed : {later : State} {y : Bytes} {w : Change} → q.operation ≡ Some (operation.Change w) → length y ≡ needs q
       → ChangeReplied (held_in state) (first_part (mid_of at (length s - at) s)) (second_part (mid_of at (length s - at) s)) (third_part (mid_of at (length s - at) s)) (room_in q.room (mid_of done (done_after done q - done) o)) (zeros q.other) w (held_in later) y
       → Performing s o₀ (put_mid done (done_after done q - done) o y) later evaluated (at_after at q) (done_after done q)
   changed {later} {y} {w} e n r =
       advance s o₀ o state evaluated at done i later evaluated y q x i.worked_out n
       (subst (λ k. Replied (held_in state) (held_by evaluated) (first_part (mid_of at (length s - at) s)) (second_part (mid_of at (length s - at) s)) (third_part (mid_of at (length s - at) s)) (room_in q.room (mid_of done (done_after done q - done) o)) (zeros q.other) k (held_in later) (held_by evaluated) y) (sym e) (run.changed r))
 
-  pub renewed : {fresh : State} {y : Bytes} → q.operation ≡ operation.Change change.New → held_in fresh ≡ nothing → length y ≡ needs q
+  pub renewed : {fresh : State} {y : Bytes} → q.operation ≡ Some (operation.Change change.New) → held_in fresh ≡ nothing → length y ≡ needs q
       → y ≡ inPlace (valued 0) (room_in q.room (mid_of done (done_after done q - done) o)) (zeros q.other)
       → Performing s o₀ (put_mid done (done_after done q - done) o y) fresh evaluated (at_after at q) (done_after done q)
   renewed e h n r = changed e n (replied run.new h r)
@@ -177,14 +177,14 @@ module _ {s o₀ o : Bytes} {state : State} {evaluated : Evaluated} {at done : �
   -- an insertion, whose set is the one afterwards
   pub inserted : {a : Result Outcome Refusal} {new : Committed} {w : Change}
       → Changes (held_in state) (first_part (mid_of at (length s - at) s)) (second_part (mid_of at (length s - at) s)) (third_part (mid_of at (length s - at) s)) w (reply.inserted a) (settled a (held_in state) new)
-      → {r : Result Outcome Refusal} {later : State} → Insertion state later r a new → {y : Bytes} → q.operation ≡ operation.Change w → length y ≡ needs q
+      → {r : Result Outcome Refusal} {later : State} → Insertion state later r a new → {y : Bytes} → q.operation ≡ Some (operation.Change w) → length y ≡ needs q
       → y ≡ inPlace (reply.inserted r) (room_in q.room (mid_of done (done_after done q - done) o)) (zeros q.other)
       → Performing s o₀ (put_mid done (done_after done q - done) o y) later evaluated (at_after at q) (done_after done q)
   inserted {a} {new} {w} t {r} {later} j {y} e n b =
       changed e n
       (replied t (j.held ∙ ap (λ z. settled z (held_in state) new) j.answer) (b ∙ ap (λ z. inPlace (reply.inserted z) (room_in q.room (mid_of done (done_after done q - done) o)) (zeros q.other)) j.answer))
 
-  pub worked : {anew : Evaluated} {y : Bytes} → q.operation ≡ operation.Evaluate → GoodEvaluated anew → held_by anew ≡ held_in state → length y ≡ needs q
+  pub worked : {anew : Evaluated} {y : Bytes} → q.operation ≡ Some operation.Evaluate → GoodEvaluated anew → held_by anew ≡ held_in state → length y ≡ needs q
       → y ≡ inPlace (valued 0) (room_in q.room (mid_of done (done_after done q - done) o)) (zeros q.other)
       → Performing s o₀ (put_mid done (done_after done q - done) o y) state anew (at_after at q) (done_after done q)
   worked {anew} {y} e g h n r =
@@ -193,14 +193,14 @@ module _ {s o₀ o : Bytes} {state : State} {evaluated : Evaluated} {at done : �
       (subst (λ d. Replied (held_in state) (held_by evaluated) (first_part (mid_of at (length s - at) s)) (second_part (mid_of at (length s - at) s)) (third_part (mid_of at (length s - at) s)) (room_in q.room (mid_of done (done_after done q - done) o)) (zeros q.other) operation.Evaluate (held_in state) d y) (sym h)
       (subst (λ b. Replied (held_in state) (held_by evaluated) (first_part (mid_of at (length s - at) s)) (second_part (mid_of at (length s - at) s)) (third_part (mid_of at (length s - at) s)) (room_in q.room (mid_of done (done_after done q - done) o)) (zeros q.other) operation.Evaluate (held_in state) (held_in state) b) (sym r) run.evaluate)))
 
-  pub asked_state : {y : Bytes} {w : OfState} → q.operation ≡ operation.OfState w → length y ≡ needs q
+  pub asked_state : {y : Bytes} {w : OfState} → q.operation ≡ Some (operation.OfState w) → length y ≡ needs q
       → StateReplied (held_in state) (first_part (mid_of at (length s - at) s)) (second_part (mid_of at (length s - at) s)) (room_in q.room (mid_of done (done_after done q - done) o)) (zeros q.other) w y
       → Performing s o₀ (put_mid done (done_after done q - done) o y) state evaluated (at_after at q) (done_after done q)
   asked_state {y} {w} e n r =
       advance s o₀ o state evaluated at done i state evaluated y q x i.worked_out n
       (subst (λ k. Replied (held_in state) (held_by evaluated) (first_part (mid_of at (length s - at) s)) (second_part (mid_of at (length s - at) s)) (third_part (mid_of at (length s - at) s)) (room_in q.room (mid_of done (done_after done q - done) o)) (zeros q.other) k (held_in state) (held_by evaluated) y) (sym e) (run.state_asked r))
 
-  pub asked_evaluated : {y : Bytes} {w : OfEvaluated} → q.operation ≡ operation.OfEvaluated w → length y ≡ needs q
+  pub asked_evaluated : {y : Bytes} {w : OfEvaluated} → q.operation ≡ Some (operation.OfEvaluated w) → length y ≡ needs q
       → EvaluatedReplied (held_by evaluated) (first_part (mid_of at (length s - at) s)) (second_part (mid_of at (length s - at) s)) (room_in q.room (mid_of done (done_after done q - done) o)) (zeros q.other) w y
       → Performing s o₀ (put_mid done (done_after done q - done) o y) state evaluated (at_after at q) (done_after done q)
   asked_evaluated {y} {w} e n r =
@@ -230,7 +230,7 @@ ending {s} {o₀} {o} {state} {evaluated} {at} {done} i h =
     (i.so_far (drop done o) (subst (λ x. Runs (held_in state) (held_by evaluated) x (drop done o) (drop done o)) (sym (drop_of_length-le s {i = at} h)) run.ended))
 
 -- a request of a well-formed script says something
-pub says : {s : Bytes} {n : ℕ} {q : Request} → NextOf s n q → q.operation ≡ operation.Unknown → ⊥
+pub says : {s : Bytes} {n : ℕ} {q : Request} → NextOf s n q → q.operation ≡ None → ⊥
 says {s} {n} {q} x e =
     let h : true ≡ false = sym x.whole.known ∙ ap (λ z. is_known z.operation) (sym x.is) ∙ ap is_known e in
     let z : ◌≡◌ {A = ℕ} 0 1 = cc in

@@ -1,6 +1,6 @@
 -- What a script answers. The set c is what was inserted so far, and the evaluated set e is c as it was at the last evaluation. Each request's
 -- reply is what the call that it names answers on its arguments x, y, z and in its rooms p and q. proofs/Settled: two runs coincide.
-use Rattle.std.specs.Prelude.{ℕ, ◌≤◌, ◌<◌, ◌≡◌, [], ◌++◌, eqb, length, take, drop, replicate, Result, Ok, Err, Option, Bool}
+use Rattle.std.specs.Prelude.{ℕ, ◌≤◌, ◌<◌, ◌≡◌, [], ◌++◌, eqb, length, take, drop, replicate, Result, Ok, Err, Option, Bool, Some}
 use Rattle.keyline.specs.declared.refusal.Refusal.{Refusal}
 use Rattle.keyline.specs.declared.refusal.Refusal.TheVariants.{BadLength, SmallBuffer}
 use Rattle.runs.specs.Bytes.{Bytes}
@@ -85,11 +85,11 @@ pub data ChangeReplied (c : Committed) (x y z p q : Bytes) (what : Change) : Com
 
 -- One request: c, e, the operation, the arguments and the rooms; then the set and the evaluated set afterwards, and the reply's bytes. The
 -- first room begins as the caller left it, the second as zeros.
-pub data Replied (c e : Committed) (x y z p q : Bytes) : Operation → Committed → Committed → Bytes → Type 0 where
-  changed : {w : Change} {d : Committed} {out : Bytes} → ChangeReplied c x y z p q w d out → Replied c e x y z p q (operation.Change w) d e out
-  evaluate : Replied c e x y z p q operation.Evaluate c c (inPlace (reply.valued 0) p q)
-  state_asked : {w : OfState} {out : Bytes} → StateReplied c x y p q w out → Replied c e x y z p q (operation.OfState w) c e out
-  evaluated_asked : {w : OfEvaluated} {out : Bytes} → EvaluatedReplied e x y p q w out → Replied c e x y z p q (operation.OfEvaluated w) c e out
+pub data Replied (c e : Committed) (x y z p q : Bytes) : Option Operation → Committed → Committed → Bytes → Type 0 where
+  changed : {w : Change} {d : Committed} {out : Bytes} → ChangeReplied c x y z p q w d out → Replied c e x y z p q (Some (operation.Change w)) d e out
+  evaluate : Replied c e x y z p q (Some operation.Evaluate) c c (inPlace (reply.valued 0) p q)
+  state_asked : {w : OfState} {out : Bytes} → StateReplied c x y p q w out → Replied c e x y z p q (Some (operation.OfState w)) c e out
+  evaluated_asked : {w : OfEvaluated} {out : Bytes} → EvaluatedReplied e x y p q w out → Replied c e x y z p q (Some (operation.OfEvaluated w)) c e out
 
 -- ## A script
 -- from c and e, the script s turns the answers `out` into the last argument

@@ -45,9 +45,8 @@ fn perform(script: &[u8], answers: &mut [u8])
         let from = done;
         at = start + HEADER + q.first + q.second + q.third;
         done = from + HEAD + q.room + q.other;
-        let what = q.operation;
-        match what {
-            Operation::Change(asked) => match asked {
+        match q.operation {
+            Some(Operation::Change(asked)) => match asked {
                 Change::New => {
                     state = State::new();
                     answer::answer_done(q, &mut answers[from..done]);
@@ -61,14 +60,14 @@ fn perform(script: &[u8], answers: &mut [u8])
                     answer::answer_inserted(told, q, &mut answers[from..done]);
                 }
             },
-            Operation::Evaluate => {
+            Some(Operation::Evaluate) => {
                 evaluated = state.evaluate();
                 answer::answer_done(q, &mut answers[from..done]);
             }
-            Operation::OfState(asked) => {
+            Some(Operation::OfState(asked)) => {
                 answer::answer_state(&state, asked, q, &script[start..], &mut answers[from..done]);
             }
-            Operation::OfEvaluated(asked) => {
+            Some(Operation::OfEvaluated(asked)) => {
                 answer::answer_evaluated(
                     &evaluated,
                     asked,
@@ -77,7 +76,7 @@ fn perform(script: &[u8], answers: &mut [u8])
                     &mut answers[from..done],
                 );
             }
-            Operation::Unknown => {}
+            None => {}
         }
     }
 }

@@ -11,8 +11,8 @@ use Rattle.wire.specs.Request.{header_length, request_of, length_of, needs, Boun
 use Rattle.wire.specs.declared.request.Request.{Request}
 use Rattle.std.specs.Prelude.{Ok}
 
-pub known_of : (s : Bytes) (q : Request) (b v : Bool) → q ≡ request_of s → b ≡ is_known q.operation → b ≡ v → is_known (request_of s).operation ≡ v
-known_of s q b v e k h = ap (λ x. is_known x.operation) (sym e) ∙ sym k ∙ h
+pub known_of : (s : Bytes) (q : Request) (v : Bool) → q ≡ request_of s → is_known q.operation ≡ v → is_known (request_of s).operation ≡ v
+known_of s q v e h = ap (λ x. is_known x.operation) (sym e) ∙ h
 
 -- a step that is whole, from the request as it was read
 pub whole_step : (s : Bytes) (q : Request) → q ≡ request_of s → Bounded q → header_length ≤ length s → is_known (request_of s).operation ≡ true

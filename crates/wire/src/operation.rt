@@ -1,6 +1,6 @@
 // What a request asks, from the byte that says it. docs/SCRIPT.md has the table.
 ghost use Rattle.std.specs.Prelude.{◌≡◌};
-ghost use Rattle.wire.specs.Operation.{change_of, of_state, of_evaluated, operation_of, is_known};
+ghost use Rattle.wire.specs.Operation.{change_of, of_state, of_evaluated, operation_of};
 
 // What gives another set.
 #[derive(Clone, Copy)]
@@ -44,95 +44,56 @@ pub enum Operation {
     Evaluate,
     OfState(OfState),
     OfEvaluated(OfEvaluated),
-    Unknown,
 }
 
-fn change_of(byte: u8) -> Operation
+fn change_of(byte: u8) -> Option<Operation>
     ensures { result ≡ change_of byte }
 {
-    if byte == 0 {
-        return Operation::Change(Change::New);
+    match byte {
+        0 => Some(Operation::Change(Change::New)),
+        1 => Some(Operation::Change(Change::InsertDelegation)),
+        2 => Some(Operation::Change(Change::InsertRevocation)),
+        3 => Some(Operation::Evaluate),
+        _ => None,
     }
-    if byte == 1 {
-        return Operation::Change(Change::InsertDelegation);
-    }
-    if byte == 2 {
-        return Operation::Change(Change::InsertRevocation);
-    }
-    if byte == 3 {
-        return Operation::Evaluate;
-    }
-    Operation::Unknown
 }
 
-fn of_state(byte: u8) -> Operation
+fn of_state(byte: u8) -> Option<Operation>
     ensures { result ≡ of_state byte }
 {
-    if byte == 16 {
-        return Operation::OfState(OfState::Version);
+    match byte {
+        16 => Some(Operation::OfState(OfState::Version)),
+        17 => Some(Operation::OfState(OfState::Len)),
+        18 => Some(Operation::OfState(OfState::IsEmpty)),
+        19 => Some(Operation::OfState(OfState::ContainsDelegation)),
+        20 => Some(Operation::OfState(OfState::ContainsRevocation)),
+        21 => Some(Operation::OfState(OfState::Delegation)),
+        22 => Some(Operation::OfState(OfState::Revocation)),
+        23 => Some(Operation::OfState(OfState::Subjects)),
+        24 => Some(Operation::OfState(OfState::RevocationsOf)),
+        25 => Some(Operation::OfState(OfState::DelegationsTo)),
+        26 => Some(Operation::OfState(OfState::Certificates)),
+        _ => None,
     }
-    if byte == 17 {
-        return Operation::OfState(OfState::Len);
-    }
-    if byte == 18 {
-        return Operation::OfState(OfState::IsEmpty);
-    }
-    if byte == 19 {
-        return Operation::OfState(OfState::ContainsDelegation);
-    }
-    if byte == 20 {
-        return Operation::OfState(OfState::ContainsRevocation);
-    }
-    if byte == 21 {
-        return Operation::OfState(OfState::Delegation);
-    }
-    if byte == 22 {
-        return Operation::OfState(OfState::Revocation);
-    }
-    if byte == 23 {
-        return Operation::OfState(OfState::Subjects);
-    }
-    if byte == 24 {
-        return Operation::OfState(OfState::RevocationsOf);
-    }
-    if byte == 25 {
-        return Operation::OfState(OfState::DelegationsTo);
-    }
-    if byte == 26 {
-        return Operation::OfState(OfState::Certificates);
-    }
-    Operation::Unknown
 }
 
-fn of_evaluated(byte: u8) -> Operation
+fn of_evaluated(byte: u8) -> Option<Operation>
     ensures { result ≡ of_evaluated byte }
 {
-    if byte == 32 {
-        return Operation::OfEvaluated(OfEvaluated::PositivePower);
+    match byte {
+        32 => Some(Operation::OfEvaluated(OfEvaluated::PositivePower)),
+        33 => Some(Operation::OfEvaluated(OfEvaluated::EffectivePower)),
+        34 => Some(Operation::OfEvaluated(OfEvaluated::Members)),
+        35 => Some(Operation::OfEvaluated(OfEvaluated::IsLive)),
+        36 => Some(Operation::OfEvaluated(OfEvaluated::ConveyedPower)),
+        37 => Some(Operation::OfEvaluated(OfEvaluated::Standing)),
+        38 => Some(Operation::OfEvaluated(OfEvaluated::Closure)),
+        _ => None,
     }
-    if byte == 33 {
-        return Operation::OfEvaluated(OfEvaluated::EffectivePower);
-    }
-    if byte == 34 {
-        return Operation::OfEvaluated(OfEvaluated::Members);
-    }
-    if byte == 35 {
-        return Operation::OfEvaluated(OfEvaluated::IsLive);
-    }
-    if byte == 36 {
-        return Operation::OfEvaluated(OfEvaluated::ConveyedPower);
-    }
-    if byte == 37 {
-        return Operation::OfEvaluated(OfEvaluated::Standing);
-    }
-    if byte == 38 {
-        return Operation::OfEvaluated(OfEvaluated::Closure);
-    }
-    Operation::Unknown
 }
 
-// What the byte says.
-pub fn named(byte: u8) -> Operation
+// What the byte says, or None where it says nothing.
+pub fn named(byte: u8) -> Option<Operation>
     ensures { result ≡ operation_of byte }
 {
     if byte < 16 {
@@ -142,16 +103,4 @@ pub fn named(byte: u8) -> Operation
         return of_state(byte);
     }
     of_evaluated(byte)
-}
-
-pub fn is_known(what: Operation) -> bool
-    ensures { result ≡ is_known what }
-{
-    match what {
-        Operation::Change(_) => true,
-        Operation::Evaluate => true,
-        Operation::OfState(_) => true,
-        Operation::OfEvaluated(_) => true,
-        Operation::Unknown => false,
-    }
 }

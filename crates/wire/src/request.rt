@@ -12,7 +12,8 @@ pub const HEADER: usize = 10;
 
 #[derive(Clone, Copy)]
 pub struct Request {
-    pub operation: Operation,
+    // What is asked, if the first byte says it.
+    pub operation: Option<Operation>,
     pub first: usize,
     pub second: usize,
     pub third: usize,
@@ -73,8 +74,7 @@ pub fn next_step(script: &[u8]) -> Result<Sizes, Refusal>
         return Err(Refusal::UnexpectedEnd);
     }
     let q = read(script);
-    let what = q.operation;
-    if !operation::is_known(what) {
+    if q.operation.is_none() {
         return Err(Refusal::InvalidTag(script[0]));
     }
     let n = HEADER + q.first + q.second + q.third;

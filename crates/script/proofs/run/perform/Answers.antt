@@ -7,6 +7,7 @@ use lib.ListN.{length, length-drop}
 use Rattle.tables.specs.Insertion.{is_added}
 use Rattle.wire.specs.Request.{Script}
 use Rattle.wire.specs.declared.operation.Operation.TheVariants as operation
+use Rattle.std.specs.Prelude.{Some}
 use Rattle.script.specs.Run as run
 use Rattle.script.proofs.Measuring.{rest_lent}
 use Rattle.script.proofs.Performing.{begin, bounds, asked, renewed, inserted, worked, asked_state, asked_evaluated, says, ending}
@@ -69,7 +70,7 @@ loop-at-smaller-in-New c = let l = c.loop-at in let q = c.next_request-q in let 
 pub loop-at-preserved-in-New : goal.loop-at-preserved-in-New
 loop-at-preserved-in-New c =
     let l = c.loop-at in let q = c.next_request-q in let a = asked l.invariant q.ensures in
-    renewed l.invariant q.ensures (c.in-Change.is ∙ ap operation.Change c.in-New.is) c.new-state-in-New.ensures (omega (arith, c.answers-1.given, a.long)) c.answer_done.ensures
+    renewed l.invariant q.ensures (c.in-Some-Change.is ∙ ap (λ w. Some (operation.Change w)) c.in-New.is) c.new-state-in-New.ensures (omega (arith, c.answers-1.given, a.long)) c.answer_done.ensures
 
 pub slice_bounds-insert_delegation-count : goal.slice_bounds-insert_delegation-count
 slice_bounds-insert_delegation-count c = let l = c.loop-at in let q = c.next_request-q in let b = bounds l.invariant q.ensures in let u = b.script in let v = b.answers in omega arith
@@ -101,7 +102,7 @@ loop-at-smaller-in-InsertDelegation c = let l = c.loop-at in let q = c.next_requ
 pub loop-at-preserved-in-InsertDelegation : goal.loop-at-preserved-in-InsertDelegation
 loop-at-preserved-in-InsertDelegation c =
     let l = c.loop-at in let q = c.next_request-q in let a = asked l.invariant q.ensures in let i = c.insert_delegation-told.ensures in
-    inserted l.invariant q.ensures run.insert_delegation i (c.in-Change.is ∙ ap operation.Change c.in-InsertDelegation.is) (omega (arith, c.answers-in-InsertDelegation-1.given, a.long)) c.answer_inserted.ensures
+    inserted l.invariant q.ensures run.insert_delegation i (c.in-Some-Change.is ∙ ap (λ w. Some (operation.Change w)) c.in-InsertDelegation.is) (omega (arith, c.answers-in-InsertDelegation-1.given, a.long)) c.answer_inserted.ensures
 
 pub slice_bounds-insert_revocation-count : goal.slice_bounds-insert_revocation-count
 slice_bounds-insert_revocation-count c = let l = c.loop-at in let q = c.next_request-q in let b = bounds l.invariant q.ensures in let u = b.script in let v = b.answers in omega arith
@@ -133,27 +134,27 @@ loop-at-smaller-in-InsertRevocation c = let l = c.loop-at in let q = c.next_requ
 pub loop-at-preserved-in-InsertRevocation : goal.loop-at-preserved-in-InsertRevocation
 loop-at-preserved-in-InsertRevocation c =
     let l = c.loop-at in let q = c.next_request-q in let a = asked l.invariant q.ensures in let i = c.insert_revocation-told.ensures in
-    inserted l.invariant q.ensures run.insert_revocation i (c.in-Change.is ∙ ap operation.Change c.in-InsertRevocation.is) (omega (arith, c.answers-in-InsertRevocation-1.given, a.long)) c.answer_inserted-in-InsertRevocation.ensures
+    inserted l.invariant q.ensures run.insert_revocation i (c.in-Some-Change.is ∙ ap (λ w. Some (operation.Change w)) c.in-InsertRevocation.is) (omega (arith, c.answers-in-InsertRevocation-1.given, a.long)) c.answer_inserted-in-InsertRevocation.ensures
 
-pub slice_bounds-answer_done-count-in-Evaluate : goal.slice_bounds-answer_done-count-in-Evaluate
-slice_bounds-answer_done-count-in-Evaluate c = let l = c.loop-at in let q = c.next_request-q in let b = bounds l.invariant q.ensures in let u = b.script in let v = b.answers in omega arith
+pub slice_bounds-answer_done-count-in-Some-Evaluate : goal.slice_bounds-answer_done-count-in-Some-Evaluate
+slice_bounds-answer_done-count-in-Some-Evaluate c = let l = c.loop-at in let q = c.next_request-q in let b = bounds l.invariant q.ensures in let u = b.script in let v = b.answers in omega arith
 
-pub slice_bounds-answer_done-start-in-Evaluate : goal.slice_bounds-answer_done-start-in-Evaluate
-slice_bounds-answer_done-start-in-Evaluate c = let l = c.loop-at in let q = c.next_request-q in let b = bounds l.invariant q.ensures in let u = b.script in let v = b.answers in omega arith
+pub slice_bounds-answer_done-start-in-Some-Evaluate : goal.slice_bounds-answer_done-start-in-Some-Evaluate
+slice_bounds-answer_done-start-in-Some-Evaluate c = let l = c.loop-at in let q = c.next_request-q in let b = bounds l.invariant q.ensures in let u = b.script in let v = b.answers in omega arith
 
-pub slice_bounds-answer_done-end-in-Evaluate : goal.slice_bounds-answer_done-end-in-Evaluate
-slice_bounds-answer_done-end-in-Evaluate c = let l = c.loop-at in let q = c.next_request-q in let b = bounds l.invariant q.ensures in let u = b.script in let v = b.answers in omega arith
+pub slice_bounds-answer_done-end-in-Some-Evaluate : goal.slice_bounds-answer_done-end-in-Some-Evaluate
+slice_bounds-answer_done-end-in-Some-Evaluate c = let l = c.loop-at in let q = c.next_request-q in let b = bounds l.invariant q.ensures in let u = b.script in let v = b.answers in omega arith
 
-pub answer_done-requires-in-Evaluate : goal.answer_done-requires-in-Evaluate
-answer_done-requires-in-Evaluate c = let l = c.loop-at in let q = c.next_request-q in let a = asked l.invariant q.ensures in (a.long, a.other)
+pub answer_done-requires-in-Some-Evaluate : goal.answer_done-requires-in-Some-Evaluate
+answer_done-requires-in-Some-Evaluate c = let l = c.loop-at in let q = c.next_request-q in let a = asked l.invariant q.ensures in (a.long, a.other)
 
-pub loop-at-smaller-in-Evaluate : goal.loop-at-smaller-in-Evaluate
-loop-at-smaller-in-Evaluate c = let l = c.loop-at in let q = c.next_request-q in let b = bounds l.invariant q.ensures in let u = b.script in let v = b.answers in omega arith
+pub loop-at-smaller-in-Some-Evaluate : goal.loop-at-smaller-in-Some-Evaluate
+loop-at-smaller-in-Some-Evaluate c = let l = c.loop-at in let q = c.next_request-q in let b = bounds l.invariant q.ensures in let u = b.script in let v = b.answers in omega arith
 
-pub loop-at-preserved-in-Evaluate : goal.loop-at-preserved-in-Evaluate
-loop-at-preserved-in-Evaluate c =
+pub loop-at-preserved-in-Some-Evaluate : goal.loop-at-preserved-in-Some-Evaluate
+loop-at-preserved-in-Some-Evaluate c =
     let l = c.loop-at in let q = c.next_request-q in let a = asked l.invariant q.ensures in
-    worked l.invariant q.ensures c.in-Evaluate.is c.evaluate-evaluated-in-Evaluate.ensures.good c.evaluate-evaluated-in-Evaluate.ensures.held (omega (arith, c.answers-in-Evaluate-1.given, a.long)) c.answer_done-in-Evaluate.ensures
+    worked l.invariant q.ensures c.in-Some-Evaluate.is c.evaluate-evaluated-in-Some-Evaluate.ensures.good c.evaluate-evaluated-in-Some-Evaluate.ensures.held (omega (arith, c.answers-in-Some-Evaluate-1.given, a.long)) c.answer_done-in-Some-Evaluate.ensures
 
 pub slice_bounds-answer_state-count : goal.slice_bounds-answer_state-count
 slice_bounds-answer_state-count c = let l = c.loop-at in let q = c.next_request-q in let b = bounds l.invariant q.ensures in let u = b.script in let v = b.answers in omega arith
@@ -164,25 +165,25 @@ slice_bounds-answer_state-start c = let l = c.loop-at in let q = c.next_request-
 pub slice_bounds-answer_state-end : goal.slice_bounds-answer_state-end
 slice_bounds-answer_state-end c = let l = c.loop-at in let q = c.next_request-q in let b = bounds l.invariant q.ensures in let u = b.script in let v = b.answers in omega arith
 
-pub slice_bounds-answer_state-count-in-OfState : goal.slice_bounds-answer_state-count-in-OfState
-slice_bounds-answer_state-count-in-OfState c = let l = c.loop-at in let q = c.next_request-q in let b = bounds l.invariant q.ensures in let u = b.script in let v = b.answers in omega arith
+pub slice_bounds-answer_state-count-in-Some-OfState : goal.slice_bounds-answer_state-count-in-Some-OfState
+slice_bounds-answer_state-count-in-Some-OfState c = let l = c.loop-at in let q = c.next_request-q in let b = bounds l.invariant q.ensures in let u = b.script in let v = b.answers in omega arith
 
-pub slice_bounds-answer_state-start-in-OfState : goal.slice_bounds-answer_state-start-in-OfState
-slice_bounds-answer_state-start-in-OfState c = let l = c.loop-at in let q = c.next_request-q in let b = bounds l.invariant q.ensures in let u = b.script in let v = b.answers in omega arith
+pub slice_bounds-answer_state-start-in-Some-OfState : goal.slice_bounds-answer_state-start-in-Some-OfState
+slice_bounds-answer_state-start-in-Some-OfState c = let l = c.loop-at in let q = c.next_request-q in let b = bounds l.invariant q.ensures in let u = b.script in let v = b.answers in omega arith
 
-pub slice_bounds-answer_state-end-in-OfState : goal.slice_bounds-answer_state-end-in-OfState
-slice_bounds-answer_state-end-in-OfState c = let l = c.loop-at in let q = c.next_request-q in let b = bounds l.invariant q.ensures in let u = b.script in let v = b.answers in omega arith
+pub slice_bounds-answer_state-end-in-Some-OfState : goal.slice_bounds-answer_state-end-in-Some-OfState
+slice_bounds-answer_state-end-in-Some-OfState c = let l = c.loop-at in let q = c.next_request-q in let b = bounds l.invariant q.ensures in let u = b.script in let v = b.answers in omega arith
 
 pub answer_state-requires : goal.answer_state-requires
 answer_state-requires c = let l = c.loop-at in let q = c.next_request-q in asked l.invariant q.ensures
 
-pub loop-at-smaller-in-OfState : goal.loop-at-smaller-in-OfState
-loop-at-smaller-in-OfState c = let l = c.loop-at in let q = c.next_request-q in let b = bounds l.invariant q.ensures in let u = b.script in let v = b.answers in omega arith
+pub loop-at-smaller-in-Some-OfState : goal.loop-at-smaller-in-Some-OfState
+loop-at-smaller-in-Some-OfState c = let l = c.loop-at in let q = c.next_request-q in let b = bounds l.invariant q.ensures in let u = b.script in let v = b.answers in omega arith
 
-pub loop-at-preserved-in-OfState : goal.loop-at-preserved-in-OfState
-loop-at-preserved-in-OfState c =
+pub loop-at-preserved-in-Some-OfState : goal.loop-at-preserved-in-Some-OfState
+loop-at-preserved-in-Some-OfState c =
     let l = c.loop-at in let q = c.next_request-q in let a = asked l.invariant q.ensures in
-    asked_state l.invariant q.ensures c.in-OfState.is (omega (arith, c.answers-in-OfState-1.given, a.long)) c.answer_state.ensures
+    asked_state l.invariant q.ensures c.in-Some-OfState.is (omega (arith, c.answers-in-Some-OfState-1.given, a.long)) c.answer_state.ensures
 
 pub slice_bounds-answer_evaluated-count : goal.slice_bounds-answer_evaluated-count
 slice_bounds-answer_evaluated-count c = let l = c.loop-at in let q = c.next_request-q in let b = bounds l.invariant q.ensures in let u = b.script in let v = b.answers in omega arith
@@ -193,31 +194,31 @@ slice_bounds-answer_evaluated-start c = let l = c.loop-at in let q = c.next_requ
 pub slice_bounds-answer_evaluated-end : goal.slice_bounds-answer_evaluated-end
 slice_bounds-answer_evaluated-end c = let l = c.loop-at in let q = c.next_request-q in let b = bounds l.invariant q.ensures in let u = b.script in let v = b.answers in omega arith
 
-pub slice_bounds-answer_evaluated-count-in-OfEvaluated : goal.slice_bounds-answer_evaluated-count-in-OfEvaluated
-slice_bounds-answer_evaluated-count-in-OfEvaluated c = let l = c.loop-at in let q = c.next_request-q in let b = bounds l.invariant q.ensures in let u = b.script in let v = b.answers in omega arith
+pub slice_bounds-answer_evaluated-count-in-Some-OfEvaluated : goal.slice_bounds-answer_evaluated-count-in-Some-OfEvaluated
+slice_bounds-answer_evaluated-count-in-Some-OfEvaluated c = let l = c.loop-at in let q = c.next_request-q in let b = bounds l.invariant q.ensures in let u = b.script in let v = b.answers in omega arith
 
-pub slice_bounds-answer_evaluated-start-in-OfEvaluated : goal.slice_bounds-answer_evaluated-start-in-OfEvaluated
-slice_bounds-answer_evaluated-start-in-OfEvaluated c = let l = c.loop-at in let q = c.next_request-q in let b = bounds l.invariant q.ensures in let u = b.script in let v = b.answers in omega arith
+pub slice_bounds-answer_evaluated-start-in-Some-OfEvaluated : goal.slice_bounds-answer_evaluated-start-in-Some-OfEvaluated
+slice_bounds-answer_evaluated-start-in-Some-OfEvaluated c = let l = c.loop-at in let q = c.next_request-q in let b = bounds l.invariant q.ensures in let u = b.script in let v = b.answers in omega arith
 
-pub slice_bounds-answer_evaluated-end-in-OfEvaluated : goal.slice_bounds-answer_evaluated-end-in-OfEvaluated
-slice_bounds-answer_evaluated-end-in-OfEvaluated c = let l = c.loop-at in let q = c.next_request-q in let b = bounds l.invariant q.ensures in let u = b.script in let v = b.answers in omega arith
+pub slice_bounds-answer_evaluated-end-in-Some-OfEvaluated : goal.slice_bounds-answer_evaluated-end-in-Some-OfEvaluated
+slice_bounds-answer_evaluated-end-in-Some-OfEvaluated c = let l = c.loop-at in let q = c.next_request-q in let b = bounds l.invariant q.ensures in let u = b.script in let v = b.answers in omega arith
 
 pub answer_evaluated-requires : goal.answer_evaluated-requires
 answer_evaluated-requires c = let l = c.loop-at in let q = c.next_request-q in (l.invariant.worked_out, asked l.invariant q.ensures)
 
-pub loop-at-smaller-in-OfEvaluated : goal.loop-at-smaller-in-OfEvaluated
-loop-at-smaller-in-OfEvaluated c = let l = c.loop-at in let q = c.next_request-q in let b = bounds l.invariant q.ensures in let u = b.script in let v = b.answers in omega arith
+pub loop-at-smaller-in-Some-OfEvaluated : goal.loop-at-smaller-in-Some-OfEvaluated
+loop-at-smaller-in-Some-OfEvaluated c = let l = c.loop-at in let q = c.next_request-q in let b = bounds l.invariant q.ensures in let u = b.script in let v = b.answers in omega arith
 
-pub loop-at-preserved-in-OfEvaluated : goal.loop-at-preserved-in-OfEvaluated
-loop-at-preserved-in-OfEvaluated c =
+pub loop-at-preserved-in-Some-OfEvaluated : goal.loop-at-preserved-in-Some-OfEvaluated
+loop-at-preserved-in-Some-OfEvaluated c =
     let l = c.loop-at in let q = c.next_request-q in let a = asked l.invariant q.ensures in
-    asked_evaluated l.invariant q.ensures c.in-OfEvaluated.is (omega (arith, c.answers-in-OfEvaluated-1.given, a.long)) c.answer_evaluated.ensures
+    asked_evaluated l.invariant q.ensures c.in-Some-OfEvaluated.is (omega (arith, c.answers-in-Some-OfEvaluated-1.given, a.long)) c.answer_evaluated.ensures
 
 pub loop-at-smaller : goal.loop-at-smaller
 loop-at-smaller c = let l = c.loop-at in let q = c.next_request-q in let b = bounds l.invariant q.ensures in let u = b.script in let v = b.answers in omega arith
 
 pub loop-at-preserved : goal.loop-at-preserved
-loop-at-preserved c = absurd (says c.next_request-q.ensures c.in-Unknown.is)
+loop-at-preserved c = absurd (says c.next_request-q.ensures c.in-None.is)
 
 pub shape_of-answers : goal.shape_of-answers
 shape_of-answers c = c.loop-at.invariant.long

@@ -1,24 +1,28 @@
--- `change_of` tries the bytes in the definition's order.
-use borrow.Author.Tests.{eq-eqb, ne_eqb}
+-- `change_of` has the definition's bytes.
+use native.Mathlib.Omega.{arith}
+use mathlib.Core.Path.{refl}
+use borrow.Author.Tests.{ne_eqb}
 use Rattle.wire.specs.Operation.{change_of}
 use Rattle.wire.proofs.operation.change_of.Goals as goal
 
-pub returns-then-byte-eq0 : goal.returns-then-byte-eq0
+pub returns-in-0 : goal.returns-in-0
 unfolding change_of
-returns-then-byte-eq0 c = simp (eq-eqb _ _ c.if-byte-eq0.true)
+returns-in-0 c = rw c.in-0.is refl
 
-pub returns-then-byte-eq1 : goal.returns-then-byte-eq1
+pub returns-in-1 : goal.returns-in-1
 unfolding change_of
-returns-then-byte-eq1 c = simp (ne_eqb _ _ c.if-byte-eq0.false, eq-eqb _ _ c.if-byte-eq1.true)
+returns-in-1 c = rw c.in-1.is refl
 
-pub returns-then-byte-eq2 : goal.returns-then-byte-eq2
+pub returns-in-2 : goal.returns-in-2
 unfolding change_of
-returns-then-byte-eq2 c = simp (ne_eqb _ _ c.if-byte-eq0.false, ne_eqb _ _ c.if-byte-eq1.false, eq-eqb _ _ c.if-byte-eq2.true)
+returns-in-2 c = rw c.in-2.is refl
 
-pub returns-then-byte-eq3 : goal.returns-then-byte-eq3
+pub returns-in-3 : goal.returns-in-3
 unfolding change_of
-returns-then-byte-eq3 c = simp (ne_eqb _ _ c.if-byte-eq0.false, ne_eqb _ _ c.if-byte-eq1.false, ne_eqb _ _ c.if-byte-eq2.false, eq-eqb _ _ c.if-byte-eq3.true)
+returns-in-3 c = rw c.in-3.is refl
 
-pub returns : goal.returns
+pub returns-in_default : goal.returns-in_default
 unfolding change_of
-returns c = simp (ne_eqb _ _ c.if-byte-eq0.false, ne_eqb _ _ c.if-byte-eq1.false, ne_eqb _ _ c.if-byte-eq2.false, ne_eqb _ _ c.if-byte-eq3.false)
+returns-in_default c =
+    let d = c.in_default in
+    simp (ne_eqb c.args.byte 0 (omega arith), ne_eqb c.args.byte 1 (omega arith), ne_eqb c.args.byte 2 (omega arith), ne_eqb c.args.byte 3 (omega arith))

@@ -1,36 +1,40 @@
--- `of_evaluated` tries the bytes in the definition's order.
-use borrow.Author.Tests.{eq-eqb, ne_eqb}
+-- `of_evaluated` has the definition's bytes.
+use native.Mathlib.Omega.{arith}
+use mathlib.Core.Path.{refl}
+use borrow.Author.Tests.{ne_eqb}
 use Rattle.wire.specs.Operation.{of_evaluated}
 use Rattle.wire.proofs.operation.of_evaluated.Goals as goal
 
-pub returns-then-byte-eq32 : goal.returns-then-byte-eq32
+pub returns-in-32 : goal.returns-in-32
 unfolding of_evaluated
-returns-then-byte-eq32 c = simp (eq-eqb _ _ c.if-byte-eq32.true)
+returns-in-32 c = rw c.in-32.is refl
 
-pub returns-then-byte-eq33 : goal.returns-then-byte-eq33
+pub returns-in-33 : goal.returns-in-33
 unfolding of_evaluated
-returns-then-byte-eq33 c = simp (ne_eqb _ _ c.if-byte-eq32.false, eq-eqb _ _ c.if-byte-eq33.true)
+returns-in-33 c = rw c.in-33.is refl
 
-pub returns-then-byte-eq34 : goal.returns-then-byte-eq34
+pub returns-in-34 : goal.returns-in-34
 unfolding of_evaluated
-returns-then-byte-eq34 c = simp (ne_eqb _ _ c.if-byte-eq32.false, ne_eqb _ _ c.if-byte-eq33.false, eq-eqb _ _ c.if-byte-eq34.true)
+returns-in-34 c = rw c.in-34.is refl
 
-pub returns-then-byte-eq35 : goal.returns-then-byte-eq35
+pub returns-in-35 : goal.returns-in-35
 unfolding of_evaluated
-returns-then-byte-eq35 c = simp (ne_eqb _ _ c.if-byte-eq32.false, ne_eqb _ _ c.if-byte-eq33.false, ne_eqb _ _ c.if-byte-eq34.false, eq-eqb _ _ c.if-byte-eq35.true)
+returns-in-35 c = rw c.in-35.is refl
 
-pub returns-then-byte-eq36 : goal.returns-then-byte-eq36
+pub returns-in-36 : goal.returns-in-36
 unfolding of_evaluated
-returns-then-byte-eq36 c = simp (ne_eqb _ _ c.if-byte-eq32.false, ne_eqb _ _ c.if-byte-eq33.false, ne_eqb _ _ c.if-byte-eq34.false, ne_eqb _ _ c.if-byte-eq35.false, eq-eqb _ _ c.if-byte-eq36.true)
+returns-in-36 c = rw c.in-36.is refl
 
-pub returns-then-byte-eq37 : goal.returns-then-byte-eq37
+pub returns-in-37 : goal.returns-in-37
 unfolding of_evaluated
-returns-then-byte-eq37 c = simp (ne_eqb _ _ c.if-byte-eq32.false, ne_eqb _ _ c.if-byte-eq33.false, ne_eqb _ _ c.if-byte-eq34.false, ne_eqb _ _ c.if-byte-eq35.false, ne_eqb _ _ c.if-byte-eq36.false, eq-eqb _ _ c.if-byte-eq37.true)
+returns-in-37 c = rw c.in-37.is refl
 
-pub returns-then-byte-eq38 : goal.returns-then-byte-eq38
+pub returns-in-38 : goal.returns-in-38
 unfolding of_evaluated
-returns-then-byte-eq38 c = simp (ne_eqb _ _ c.if-byte-eq32.false, ne_eqb _ _ c.if-byte-eq33.false, ne_eqb _ _ c.if-byte-eq34.false, ne_eqb _ _ c.if-byte-eq35.false, ne_eqb _ _ c.if-byte-eq36.false, ne_eqb _ _ c.if-byte-eq37.false, eq-eqb _ _ c.if-byte-eq38.true)
+returns-in-38 c = rw c.in-38.is refl
 
-pub returns : goal.returns
+pub returns-in_default : goal.returns-in_default
 unfolding of_evaluated
-returns c = simp (ne_eqb _ _ c.if-byte-eq32.false, ne_eqb _ _ c.if-byte-eq33.false, ne_eqb _ _ c.if-byte-eq34.false, ne_eqb _ _ c.if-byte-eq35.false, ne_eqb _ _ c.if-byte-eq36.false, ne_eqb _ _ c.if-byte-eq37.false, ne_eqb _ _ c.if-byte-eq38.false)
+returns-in_default c =
+    let d = c.in_default in
+    simp (ne_eqb c.args.byte 32 (omega arith), ne_eqb c.args.byte 33 (omega arith), ne_eqb c.args.byte 34 (omega arith), ne_eqb c.args.byte 35 (omega arith), ne_eqb c.args.byte 36 (omega arith), ne_eqb c.args.byte 37 (omega arith), ne_eqb c.args.byte 38 (omega arith))

@@ -1,52 +1,56 @@
--- `of_state` tries the bytes in the definition's order.
-use borrow.Author.Tests.{eq-eqb, ne_eqb}
+-- `of_state` has the definition's bytes.
+use native.Mathlib.Omega.{arith}
+use mathlib.Core.Path.{refl}
+use borrow.Author.Tests.{ne_eqb}
 use Rattle.wire.specs.Operation.{of_state}
 use Rattle.wire.proofs.operation.of_state.Goals as goal
 
-pub returns-then-byte-eq16 : goal.returns-then-byte-eq16
+pub returns-in-16 : goal.returns-in-16
 unfolding of_state
-returns-then-byte-eq16 c = simp (eq-eqb _ _ c.if-byte-eq16.true)
+returns-in-16 c = rw c.in-16.is refl
 
-pub returns-then-byte-eq17 : goal.returns-then-byte-eq17
+pub returns-in-17 : goal.returns-in-17
 unfolding of_state
-returns-then-byte-eq17 c = simp (ne_eqb _ _ c.if-byte-eq16.false, eq-eqb _ _ c.if-byte-eq17.true)
+returns-in-17 c = rw c.in-17.is refl
 
-pub returns-then-byte-eq18 : goal.returns-then-byte-eq18
+pub returns-in-18 : goal.returns-in-18
 unfolding of_state
-returns-then-byte-eq18 c = simp (ne_eqb _ _ c.if-byte-eq16.false, ne_eqb _ _ c.if-byte-eq17.false, eq-eqb _ _ c.if-byte-eq18.true)
+returns-in-18 c = rw c.in-18.is refl
 
-pub returns-then-byte-eq19 : goal.returns-then-byte-eq19
+pub returns-in-19 : goal.returns-in-19
 unfolding of_state
-returns-then-byte-eq19 c = simp (ne_eqb _ _ c.if-byte-eq16.false, ne_eqb _ _ c.if-byte-eq17.false, ne_eqb _ _ c.if-byte-eq18.false, eq-eqb _ _ c.if-byte-eq19.true)
+returns-in-19 c = rw c.in-19.is refl
 
-pub returns-then-byte-eq20 : goal.returns-then-byte-eq20
+pub returns-in-20 : goal.returns-in-20
 unfolding of_state
-returns-then-byte-eq20 c = simp (ne_eqb _ _ c.if-byte-eq16.false, ne_eqb _ _ c.if-byte-eq17.false, ne_eqb _ _ c.if-byte-eq18.false, ne_eqb _ _ c.if-byte-eq19.false, eq-eqb _ _ c.if-byte-eq20.true)
+returns-in-20 c = rw c.in-20.is refl
 
-pub returns-then-byte-eq21 : goal.returns-then-byte-eq21
+pub returns-in-21 : goal.returns-in-21
 unfolding of_state
-returns-then-byte-eq21 c = simp (ne_eqb _ _ c.if-byte-eq16.false, ne_eqb _ _ c.if-byte-eq17.false, ne_eqb _ _ c.if-byte-eq18.false, ne_eqb _ _ c.if-byte-eq19.false, ne_eqb _ _ c.if-byte-eq20.false, eq-eqb _ _ c.if-byte-eq21.true)
+returns-in-21 c = rw c.in-21.is refl
 
-pub returns-then-byte-eq22 : goal.returns-then-byte-eq22
+pub returns-in-22 : goal.returns-in-22
 unfolding of_state
-returns-then-byte-eq22 c = simp (ne_eqb _ _ c.if-byte-eq16.false, ne_eqb _ _ c.if-byte-eq17.false, ne_eqb _ _ c.if-byte-eq18.false, ne_eqb _ _ c.if-byte-eq19.false, ne_eqb _ _ c.if-byte-eq20.false, ne_eqb _ _ c.if-byte-eq21.false, eq-eqb _ _ c.if-byte-eq22.true)
+returns-in-22 c = rw c.in-22.is refl
 
-pub returns-then-byte-eq23 : goal.returns-then-byte-eq23
+pub returns-in-23 : goal.returns-in-23
 unfolding of_state
-returns-then-byte-eq23 c = simp (ne_eqb _ _ c.if-byte-eq16.false, ne_eqb _ _ c.if-byte-eq17.false, ne_eqb _ _ c.if-byte-eq18.false, ne_eqb _ _ c.if-byte-eq19.false, ne_eqb _ _ c.if-byte-eq20.false, ne_eqb _ _ c.if-byte-eq21.false, ne_eqb _ _ c.if-byte-eq22.false, eq-eqb _ _ c.if-byte-eq23.true)
+returns-in-23 c = rw c.in-23.is refl
 
-pub returns-then-byte-eq24 : goal.returns-then-byte-eq24
+pub returns-in-24 : goal.returns-in-24
 unfolding of_state
-returns-then-byte-eq24 c = simp (ne_eqb _ _ c.if-byte-eq16.false, ne_eqb _ _ c.if-byte-eq17.false, ne_eqb _ _ c.if-byte-eq18.false, ne_eqb _ _ c.if-byte-eq19.false, ne_eqb _ _ c.if-byte-eq20.false, ne_eqb _ _ c.if-byte-eq21.false, ne_eqb _ _ c.if-byte-eq22.false, ne_eqb _ _ c.if-byte-eq23.false, eq-eqb _ _ c.if-byte-eq24.true)
+returns-in-24 c = rw c.in-24.is refl
 
-pub returns-then-byte-eq25 : goal.returns-then-byte-eq25
+pub returns-in-25 : goal.returns-in-25
 unfolding of_state
-returns-then-byte-eq25 c = simp (ne_eqb _ _ c.if-byte-eq16.false, ne_eqb _ _ c.if-byte-eq17.false, ne_eqb _ _ c.if-byte-eq18.false, ne_eqb _ _ c.if-byte-eq19.false, ne_eqb _ _ c.if-byte-eq20.false, ne_eqb _ _ c.if-byte-eq21.false, ne_eqb _ _ c.if-byte-eq22.false, ne_eqb _ _ c.if-byte-eq23.false, ne_eqb _ _ c.if-byte-eq24.false, eq-eqb _ _ c.if-byte-eq25.true)
+returns-in-25 c = rw c.in-25.is refl
 
-pub returns-then-byte-eq26 : goal.returns-then-byte-eq26
+pub returns-in-26 : goal.returns-in-26
 unfolding of_state
-returns-then-byte-eq26 c = simp (ne_eqb _ _ c.if-byte-eq16.false, ne_eqb _ _ c.if-byte-eq17.false, ne_eqb _ _ c.if-byte-eq18.false, ne_eqb _ _ c.if-byte-eq19.false, ne_eqb _ _ c.if-byte-eq20.false, ne_eqb _ _ c.if-byte-eq21.false, ne_eqb _ _ c.if-byte-eq22.false, ne_eqb _ _ c.if-byte-eq23.false, ne_eqb _ _ c.if-byte-eq24.false, ne_eqb _ _ c.if-byte-eq25.false, eq-eqb _ _ c.if-byte-eq26.true)
+returns-in-26 c = rw c.in-26.is refl
 
-pub returns : goal.returns
+pub returns-in_default : goal.returns-in_default
 unfolding of_state
-returns c = simp (ne_eqb _ _ c.if-byte-eq16.false, ne_eqb _ _ c.if-byte-eq17.false, ne_eqb _ _ c.if-byte-eq18.false, ne_eqb _ _ c.if-byte-eq19.false, ne_eqb _ _ c.if-byte-eq20.false, ne_eqb _ _ c.if-byte-eq21.false, ne_eqb _ _ c.if-byte-eq22.false, ne_eqb _ _ c.if-byte-eq23.false, ne_eqb _ _ c.if-byte-eq24.false, ne_eqb _ _ c.if-byte-eq25.false, ne_eqb _ _ c.if-byte-eq26.false)
+returns-in_default c =
+    let d = c.in_default in
+    simp (ne_eqb c.args.byte 16 (omega arith), ne_eqb c.args.byte 17 (omega arith), ne_eqb c.args.byte 18 (omega arith), ne_eqb c.args.byte 19 (omega arith), ne_eqb c.args.byte 20 (omega arith), ne_eqb c.args.byte 21 (omega arith), ne_eqb c.args.byte 22 (omega arith), ne_eqb c.args.byte 23 (omega arith), ne_eqb c.args.byte 24 (omega arith), ne_eqb c.args.byte 25 (omega arith), ne_eqb c.args.byte 26 (omega arith))
