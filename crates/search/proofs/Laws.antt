@@ -13,3 +13,4 @@ pub mod Round
 pub mod Complete
 pub mod Answer
 pub mod Fill
+pub mod Lent

@@ -1,5 +1,4 @@
 -- `search::edges::index` meets its contract. The loop's invariant: the index of the first d delegations stands.
-use borrow.Author.Rules.{rules}
 use Prim.Native.Nat.{ℕ, ◌<◌}
 use mathlib.Core.Path.{◌≡◌, sym, subst}
 use native.Mathlib.Omega.{arith}
@@ -17,7 +16,7 @@ issuer_lt : (c : After-wide-u) → c.wide-u.result < key_limit
 issuer_lt c = omega (arith, c.wide-u.ensures, c.requires.1 c.loop-d.d)
 
 pub loop-d-init : goal.loop-d-init
-loop-d-init c = (search rules, indexing_none c.args.issuer.now c.args.subject.now)
+loop-d-init c = indexing_none c.args.issuer.now c.args.subject.now
 
 pub overflow_mul-at : goal.overflow_mul-at
 overflow_mul-at c = omega (arith, subject_lt (goal.at.overflow_mul-at c).After-wide-u)
@@ -38,26 +37,24 @@ pub offset_bounds-issuers-r-in-loop-d : goal.offset_bounds-issuers-r-in-loop-d
 offset_bounds-issuers-r-in-loop-d c = omega (arith, subject_lt (goal.at.offset_bounds-issuers-r-in-loop-d c).After-wide-u)
 
 pub bounds-issuers-r-in-loop-d : goal.bounds-issuers-r-in-loop-d
-bounds-issuers-r-in-loop-d c = omega (arith, subject_lt (goal.at.bounds-issuers-r-in-loop-d c).After-wide-u, c.loop-d.invariant.1.issuers_len)
+bounds-issuers-r-in-loop-d c = omega (arith, subject_lt (goal.at.bounds-issuers-r-in-loop-d c).After-wide-u, c.loop-d.invariant.issuers_len)
 
 pub bounds-last-at : goal.bounds-last-at
-bounds-last-at c = omega (arith, subject_lt (goal.at.bounds-last-at c).After-wide-u, issuer_lt (goal.at.bounds-last-at c).After-wide-u, c.loop-d.invariant.1.last_len)
+bounds-last-at c = omega (arith, subject_lt (goal.at.bounds-last-at c).After-wide-u, issuer_lt (goal.at.bounds-last-at c).After-wide-u, c.loop-d.invariant.last_len)
 
 pub bounds-last-at-in-loop-d : goal.bounds-last-at-in-loop-d
-bounds-last-at-in-loop-d c = omega (arith, subject_lt (goal.at.bounds-last-at-in-loop-d c).After-wide-u, issuer_lt (goal.at.bounds-last-at-in-loop-d c).After-wide-u, c.loop-d.invariant.1.last_len)
+bounds-last-at-in-loop-d c = omega (arith, subject_lt (goal.at.bounds-last-at-in-loop-d c).After-wide-u, issuer_lt (goal.at.bounds-last-at-in-loop-d c).After-wide-u, c.loop-d.invariant.last_len)
 
 pub loop-d-preserved : goal.loop-d-preserved
 loop-d-preserved c =
     let a = c.args in
-    let l = c.loop-d in (
-      search rules,
-      indexing_more a.issuer.now a.subject.now l.d l.issuers l.last l.earlier l.invariant.1 c.wide-r.result c.wide-u.result c.with.result
-          (sym c.wide-r.ensures) (sym c.wide-u.ensures) (subject_lt (goal.at.loop-d-preserved c).After-wide-u) (issuer_lt (goal.at.loop-d-preserved c).After-wide-u) (omega (arith, c.requires.0)) c.with.ensures.0 c.with.ensures.1,
-    )
+    let l = c.loop-d in
+    indexing_more a.issuer.now a.subject.now l.d l.issuers l.last l.earlier l.invariant c.wide-r.result c.wide-u.result c.with.result
+    (sym c.wide-r.ensures) (sym c.wide-u.ensures) (subject_lt (goal.at.loop-d-preserved c).After-wide-u) (issuer_lt (goal.at.loop-d-preserved c).After-wide-u) (omega (arith, c.requires.0)) c.with.ensures.0 c.with.ensures.1
 
-pub returns : goal.returns
-returns c =
+pub returns-clause-indexed : goal.returns-clause-indexed
+returns-clause-indexed c =
     let a = c.args in
     let l = c.loop-d in
     let e : l.d ≡ a.n = omega arith in
-    subst (λ (z : ℕ). Indexed a.issuer.now a.subject.now z l.issuers l.last l.earlier) e l.invariant.1.indexed
+    subst (λ (z : ℕ). Indexed a.issuer.now a.subject.now z l.issuers l.last l.earlier) e l.invariant.indexed

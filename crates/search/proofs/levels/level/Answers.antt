@@ -11,7 +11,7 @@ use Rattle.search.proofs.levels.level.Goals as goal
 
 pub loop-l-init : goal.loop-l-init
 unfolding height_below
-loop-l-init c = (search rules, search rules, refl)
+loop-l-init c = (search rules, refl)
 
 pub overflow_add-v : goal.overflow_add-v
 overflow_add-v c = omega (arith, c.digit-v.ensures, bit_le (word c.args.levels.now c.args.root.0 c.loop-l.l) c.args.key.0)
@@ -19,10 +19,9 @@ overflow_add-v c = omega (arith, c.digit-v.ensures, bit_le (word c.args.levels.n
 pub loop-l-preserved : goal.loop-l-preserved
 unfolding height_below
 loop-l-preserved c = (
-  search rules,
   omega (arith, c.digit-v.ensures, bit_le (word c.args.levels.now c.args.root.0 c.loop-l.l) c.args.key.0),
-  rw (add-one) (omega (arith, c.digit-v.ensures, c.loop-l.invariant.2)),
+  rw (add-one) (omega (arith, c.digit-v.ensures, c.loop-l.invariant.1)),
 )
 
 pub returns : goal.returns
-returns c = c.loop-l.invariant.2 ∙ ap (λ (l : ℕ). height_below l c.args.levels.now c.args.root.0 c.args.key.0) (let e : c.loop-l.l ≡ level_count = omega arith in e)
+returns c = c.loop-l.invariant.1 ∙ ap (λ (l : ℕ). height_below l c.args.levels.now c.args.root.0 c.args.key.0) (let e : c.loop-l.l ≡ level_count = omega arith in e)
