@@ -38,24 +38,18 @@ pub struct Facts {
     pub revocations: usize,
 }
 
-// For each of the first n delegations the issuers of the revocations that name it.
-pub fn revokers<'a>(
-    revoker: &'a [u8; REVOCATION_LIMIT],
-    target: &'a [u8; REVOCATION_LIMIT],
-    m: usize,
-    n: usize,
-) -> [u64; DELEGATION_LIMIT]
-    requires { (m ≤ revocation_limit) × (n ≤ delegation_limit) × ((j : ℕ) → get_or revoker.now j 0 < key_limit) }
-    ensures { RevokersBy revoker.now target.now m n result }
+// For each held delegation the issuers of the revocations that name it.
+pub fn revokers(facts: &Facts) -> [u64; DELEGATION_LIMIT]
+    requires revocations_le { facts.now.revocations ≤ revocation_limit }
+    requires delegations_le { facts.now.delegations ≤ delegation_limit }
+    requires revoker_lt { (j : ℕ) → get_or facts.now.revoker j 0 < key_limit }
+    ensures { RevokersBy facts.now.revoker facts.now.target facts.now.revocations facts.now.delegations result }
 {
     let mut words = [0u64; DELEGATION_LIMIT];
-    let mut j = 0;
-    while j < m {
-        let d = wide(target[j]);
-        let k = wide(revoker[j]);
-        j += 1;
-        if d < n {
-            words[d] = keyset::with(words[d], k);
+    for j in 0..facts.revocations {
+        let d = wide(facts.target[j]);
+        if d < facts.delegations {
+            words[d] = keyset::with(words[d], wide(facts.revoker[j]));
         }
     }
     words
@@ -100,22 +94,20 @@ fn exclusion(w: u64, s: usize, subjects: u64, found: &Levels) -> u64
     }
 }
 
-// For each of the first n delegations N(d) where it is covered, and 0 where it is not.
+// For each held delegation N(d) where it is covered, and 0 where it is not.
 pub fn coverage(
-    subject: &[u8; DELEGATION_LIMIT],
-    n: usize,
+    facts: &Facts,
     subjects: u64,
     revokers: &[u64; DELEGATION_LIMIT],
     found: &Levels,
 ) -> [u64; DELEGATION_LIMIT]
-    requires { (n ≤ delegation_limit) × ((d : ℕ) → get_or subject.now d 0 < key_limit) }
-    ensures { Filled n (λ d w. Exclusion (get_or revokers.now d 0) (get_or subject.now d 0) subjects found.now w) result }
+    requires delegations_le { facts.now.delegations ≤ delegation_limit }
+    requires subject_lt { (d : ℕ) → get_or facts.now.subject d 0 < key_limit }
+    ensures { Filled facts.now.delegations (λ d w. Exclusion (get_or revokers.now d 0) (get_or facts.now.subject d 0) subjects found.now w) result }
 {
-    let mut r = [0u64; DELEGATION_LIMIT];
-    let mut d = 0;
-    while d < n {
-        r[d] = exclusion(revokers[d], wide(subject[d]), subjects, found);
-        d += 1;
+    let mut excluded = [0u64; DELEGATION_LIMIT];
+    for d in 0..facts.delegations {
+        excluded[d] = exclusion(revokers[d], wide(facts.subject[d]), subjects, found);
     }
-    r
+    excluded
 }

@@ -9,15 +9,12 @@ ghost use Rattle.coverage.specs.Contexts.{Within, Through};
 
 use places::{DELEGATION_LIMIT, KeyPlace, REVOCATION_LIMIT, wide};
 use search::Levels;
+use search::delegations::Delegations;
 
 // The subjects of the delegations that the members name.
-pub fn roots<'a>(
-    members: u64,
-    target: &'a [u8; REVOCATION_LIMIT],
-    subject: &'a [u8; DELEGATION_LIMIT],
-) -> u64
+pub fn roots(members: u64, target: &[u8; REVOCATION_LIMIT], subject: &[u8; DELEGATION_LIMIT]) -> u64
     requires within { Within members target.now }
-    requires by_index { (d : ℕ) → get_or subject.now d 0 < key_limit }
+    requires subject_lt { (d : ℕ) → get_or subject.now d 0 < key_limit }
     ensures { Word result (Through members (λ j. get_or subject.now (get_or target.now j 0) 0)) }
 {
     let mut w = 0;
@@ -32,17 +29,15 @@ pub fn roots<'a>(
 }
 
 // Those of the members whose delegation's issuer was reached over its subject.
-pub fn reached<'a>(
+pub fn reached(
     members: u64,
-    target: &'a [u8; REVOCATION_LIMIT],
-    issuer: &'a [u8; DELEGATION_LIMIT],
-    subject: &'a [u8; DELEGATION_LIMIT],
+    target: &[u8; REVOCATION_LIMIT],
+    delegations: &Delegations,
     found: &Levels,
 ) -> u64
     requires within { Within members target.now }
-    requires by_index { (d : ℕ) → get_or issuer.now d 0 < key_limit }
-    requires by_index_2 { (d : ℕ) → get_or subject.now d 0 < key_limit }
-    ensures { Word result (Among members (λ j. On found.now 0 (get_or subject.now (get_or target.now j 0) 0) (get_or issuer.now (get_or target.now j 0) 0))) }
+    requires subject_lt { (d : ℕ) → get_or delegations.now.subject.now d 0 < key_limit }
+    ensures { Word result (Among members (λ j. On found.now 0 (get_or delegations.now.subject.now (get_or target.now j 0) 0) (get_or delegations.now.issuer.now (get_or target.now j 0) 0))) }
 {
     let mut w = 0;
     let mut left = members;
@@ -50,7 +45,9 @@ pub fn reached<'a>(
         let j = keyset::lowest(left);
         left = keyset::without(left, j);
         let d = wide(target[j]);
-        if search::levels::reached(found, KeyPlace(wide(subject[d])), KeyPlace(wide(issuer[d]))) {
+        let root = KeyPlace(wide(delegations.subject[d]));
+        let issuer = KeyPlace(wide(delegations.issuer[d]));
+        if search::levels::reached(found, root, issuer) {
             w = keyset::with(w, j);
         }
     }

@@ -1,5 +1,4 @@
 -- `coverage::coverage` meets its contract. The loop's invariant: the words of the first d delegations stand.
-use borrow.Author.Rules.{rules}
 use Prim.Native.Nat.{ℕ}
 use mathlib.Core.Path.{◌≡◌, subst}
 use native.Mathlib.Omega.{arith}
@@ -9,22 +8,20 @@ use Rattle.coverage.proofs.Laws.Fill.{filled_none, filled_more, filled_to}
 use Rattle.coverage.proofs.coverage.Goals as goal
 
 pub loop-d-init : goal.loop-d-init
-loop-d-init c = (search rules, filled_none _)
+loop-d-init c = filled_none _
 
 pub exclusion-requires : goal.exclusion-requires
-exclusion-requires c = omega (arith, c.wide.ensures, c.requires.1 c.loop-d.d)
+exclusion-requires c = omega (arith, c.wide.ensures, c.requires.subject_lt c.loop-d.d)
 
-pub bounds-r-d : goal.bounds-r-d
-bounds-r-d c = omega (arith, c.loop-d.invariant.1.len)
+pub bounds-excluded-d : goal.bounds-excluded-d
+bounds-excluded-d c = omega (arith, c.loop-d.invariant.len)
 
 pub loop-d-preserved : goal.loop-d-preserved
 loop-d-preserved c =
     let a = c.args in
-    let l = c.loop-d in (
-      search rules,
-      filled_more l.d _ l.invariant.1 (omega arith)
-          (subst (λ (z : ℕ). Exclusion (get_or a.revokers.now l.d 0) z a.subjects a.found.now c.exclusion.result) c.wide.ensures c.exclusion.ensures),
-    )
+    let l = c.loop-d in
+    filled_more l.d _ l.invariant (omega arith)
+    (subst (λ (z : ℕ). Exclusion (get_or a.revokers.now l.d 0) z a.subjects a.found.now c.exclusion.result) c.wide.ensures c.exclusion.ensures)
 
 pub returns : goal.returns
-returns c = filled_to (let q : c.loop-d.d ≡ c.args.n = omega arith in q) c.loop-d.invariant.1
+returns c = filled_to (let q : c.loop-d.d ≡ c.args.facts.now.delegations = omega arith in q) c.loop-d.invariant

@@ -1,41 +1,40 @@
 -- `coverage::revokers` meets its contract. The loop's invariant: the words stand for the first j revocations.
-use borrow.Author.Rules.{rules}
 use Prim.Native.Nat.{ℕ}
 use mathlib.Core.Path.{◌≡◌, sym, subst}
 use native.Mathlib.Omega.{arith}
 use Rattle.coverage.specs.Coverage.{RevokersBy}
 use Rattle.coverage.proofs.Laws.Cover.{revokers_none, revokers_more, revokers_skip}
 use Rattle.coverage.proofs.revokers.Goals as goal
+use Rattle.coverage.proofs.revokers.Goals.{then-d-facts, else-d-facts}
 
 pub loop-j-init : goal.loop-j-init
-loop-j-init c = (search rules, revokers_none c.args.revoker.now c.args.target.now c.args.n)
+loop-j-init c = (revokers_none c.args.facts.now.revoker c.args.facts.now.target c.args.facts.now.delegations)
 
 pub bounds-words-d : goal.bounds-words-d
-bounds-words-d c = omega (arith, c.if-d-n.true, c.requires.1)
+bounds-words-d c = omega (arith, c.if-d-facts.true, c.requires.delegations_le)
 
 pub with-requires : goal.with-requires
-with-requires c = omega (arith, c.wide-k.ensures, c.requires.2 c.loop-j.j)
+with-requires c = omega (arith, c.wide.ensures, c.requires.revoker_lt c.loop-j.j)
 
-pub bounds-words-d-then-d-n : goal.bounds-words-d-then-d-n
-bounds-words-d-then-d-n c = omega (arith, c.if-d-n.true, c.requires.1, c.loop-j.invariant.1.len)
-
-pub loop-j-preserved-then-d-n : goal.loop-j-preserved-then-d-n
-loop-j-preserved-then-d-n c =
-    let a = c.args in
-    let l = c.loop-j in (
-      search rules,
-      revokers_more a.revoker.now a.target.now l.j a.n l.words l.invariant.1 c.wide-d.result c.wide-k.result c.with.result
-          (sym c.wide-d.ensures) (sym c.wide-k.ensures) (omega (arith, c.if-d-n.true, c.requires.1)) c.with.ensures.0 c.with.ensures.1,
-    )
+pub bounds-words-d-then-d-facts : goal.bounds-words-d-then-d-facts
+bounds-words-d-then-d-facts c = omega (arith, c.if-d-facts.true, c.requires.delegations_le, c.loop-j.invariant.len)
 
 pub loop-j-preserved : goal.loop-j-preserved
 loop-j-preserved c =
     let a = c.args in
     let l = c.loop-j in
-    (search rules, revokers_skip a.revoker.now a.target.now l.j a.n l.words l.invariant.1 (omega (arith, c.wide-d.ensures, c.if-d-n.false)))
+    elim c.if-d-facts.branch [
+      | then-d-facts w ↦
+          rw w.words-is
+          (revokers_more a.facts.now.revoker a.facts.now.target l.j a.facts.now.delegations l.words l.invariant c.wide-d.result w.wide.result w.with.result
+          (sym c.wide-d.ensures) (sym w.wide.ensures) (omega (arith, w.if-d-facts.true, c.requires.delegations_le)) w.with.ensures.0 w.with.ensures.1)
+      | else-d-facts w ↦
+          rw w.words-is
+          (revokers_skip a.facts.now.revoker a.facts.now.target l.j a.facts.now.delegations l.words l.invariant (omega (arith, c.wide-d.ensures, w.if-d-facts.false)))
+    ]
 
 pub returns : goal.returns
 returns c =
     let a = c.args in
     let l = c.loop-j in
-    subst (λ (z : ℕ). RevokersBy a.revoker.now a.target.now z a.n l.words) (let q : l.j ≡ a.m = omega arith in q) l.invariant.1
+    subst (λ (z : ℕ). RevokersBy a.facts.now.revoker a.facts.now.target z a.facts.now.delegations l.words) (let q : l.j ≡ a.facts.now.revocations = omega arith in q) l.invariant

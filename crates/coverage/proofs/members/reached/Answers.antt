@@ -16,25 +16,25 @@ place c = omega (arith, c.wide-d.ensures, c.requires.within c.lowest-j.result (c
 
 -- what was found of the member
 says : (c : After-reached) → let a = c.args in let d = get_or a.target.now c.lowest-j.result 0 in
-    Says c.reached.result (On a.found.now 0 (get_or a.subject.now d 0) (get_or a.issuer.now d 0))
+    Says c.reached.result (On a.found.now 0 (get_or a.delegations.now.subject.now d 0) (get_or a.delegations.now.issuer.now d 0))
 says c =
     let a = c.args in
-    says_two (λ r x. On a.found.now 0 r x) (c.wide.ensures ∙ ap (λ (z : ℕ). get_or a.subject.now z 0) c.wide-d.ensures)
-    (c.wide-in-loop-left.ensures ∙ ap (λ (z : ℕ). get_or a.issuer.now z 0) c.wide-d.ensures) c.reached.ensures
+    says_two (λ r x. On a.found.now 0 r x) (c.wide.ensures ∙ ap (λ (z : ℕ). get_or a.delegations.now.subject.now z 0) c.wide-d.ensures)
+    (c.wide-in-loop-left.ensures ∙ ap (λ (z : ℕ). get_or a.delegations.now.issuer.now z 0) c.wide-d.ensures) c.reached.ensures
 
 pub loop-left-init : goal.loop-left-init
 loop-left-init c = gathered_none _ c.args.members
 
-pub bounds-subject-d : goal.bounds-subject-d
-bounds-subject-d c = place (goal.at.bounds-subject-d c).After-wide-d
+pub bounds-delegations-d : goal.bounds-delegations-d
+bounds-delegations-d c = place (goal.at.bounds-delegations-d c).After-wide-d
 
-pub bounds-issuer-d : goal.bounds-issuer-d
-bounds-issuer-d c = place (goal.at.bounds-issuer-d c).After-wide-d
+pub bounds-delegations-d-in-loop-left : goal.bounds-delegations-d-in-loop-left
+bounds-delegations-d-in-loop-left c = place (goal.at.bounds-delegations-d-in-loop-left c).After-wide-d
 
 pub reached-requires : goal.reached-requires
 reached-requires c = (
-  omega (arith, c.wide.ensures, c.requires.by_index_2 c.wide-d.result),
-  omega (arith, c.wide-in-loop-left.ensures, c.requires.by_index c.wide-d.result),
+  omega (arith, c.wide.ensures, c.requires.subject_lt c.wide-d.result),
+  omega (arith, c.wide-in-loop-left.ensures, c.args.delegations.now.ready.placed.issuer_lt c.wide-d.result),
 )
 
 pub loop-left-smaller-then-reached : goal.loop-left-smaller-then-reached

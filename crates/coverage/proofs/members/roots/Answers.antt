@@ -19,7 +19,7 @@ pub bounds-subject-d : goal.bounds-subject-d
 bounds-subject-d c = place (goal.at.bounds-subject-d c).After-wide-d
 
 pub with-w-requires : goal.with-w-requires
-with-w-requires c = omega (arith, c.wide.ensures, c.requires.by_index c.wide-d.result)
+with-w-requires c = omega (arith, c.wide.ensures, c.requires.subject_lt c.wide-d.result)
 
 pub loop-left-smaller : goal.loop-left-smaller
 loop-left-smaller c =
