@@ -13,8 +13,10 @@ pub struct Delegations<'a> {
     pub subject: &'a [u8; DELEGATION_LIMIT],
     // the level c(d) plus one, and 0 where the delegation is not usable: a byte in a fixed table, which the walk reads at each step
     pub grades: &'a [u8; DELEGATION_LIMIT],
+    // how many of them there are
+    pub count: usize,
     pub edges: &'a Edges,
     // the subjects of usable delegations are among these
     pub subjects: u64,
-    pub ghost ready: { Ready (graph issuer.now audience.now subject.now grades.now 0) edges.now.count edges.now.issuers edges.now.last edges.now.earlier subjects },
+    pub ghost ready: { Ready (graph issuer.now audience.now subject.now grades.now 0) count edges.now.issuers edges.now.last edges.now.earlier subjects },
 }

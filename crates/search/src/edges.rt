@@ -3,7 +3,7 @@
 //
 // A place is kept as one more than it, and 0 where there is none: no Option, since a byte in a fixed table is what a walk reads at each step.
 
-ghost use Rattle.std.specs.Prelude.{◌≡◌, ℕ, ◌≤◌, ◌<◌, get_or};
+ghost use Rattle.std.specs.Prelude.{ℕ, ◌≤◌, ◌<◌, get_or};
 ghost use Rattle.places.specs.Limits.{key_limit, delegation_limit};
 ghost use Rattle.search.specs.Index.{Indexed};
 
@@ -17,15 +17,12 @@ pub struct Edges {
     pub last: [u8; KEY_LIMIT * KEY_LIMIT],
     // for each delegation one more than the one before it of the same pair, and 0 where it is the first
     pub earlier: [u8; DELEGATION_LIMIT],
-    // how many delegations are indexed
-    pub count: usize,
 }
 
 // The chains of the first n delegations.
 pub fn index(issuer: &[u8; DELEGATION_LIMIT], subject: &[u8; DELEGATION_LIMIT], n: usize) -> Edges
     requires { (n ≤ delegation_limit) × ((d : ℕ) → get_or issuer.now d 0 < key_limit) × ((d : ℕ) → get_or subject.now d 0 < key_limit) }
-    ensures indexed { Indexed issuer.now subject.now n result.issuers result.last result.earlier }
-    ensures count { result.count ≡ n }
+    ensures { Indexed issuer.now subject.now n result.issuers result.last result.earlier }
 {
     let mut issuers = [0u64; KEY_LIMIT];
     let mut last = [0u8; KEY_LIMIT * KEY_LIMIT];
@@ -42,6 +39,5 @@ pub fn index(issuer: &[u8; DELEGATION_LIMIT], subject: &[u8; DELEGATION_LIMIT], 
         issuers,
         last,
         earlier,
-        count: n,
     }
 }

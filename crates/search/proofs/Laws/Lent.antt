@@ -4,7 +4,7 @@ use Rattle.search.specs.Index.{Ready}
 use Rattle.search.specs.Delegations.{graph_of}
 use Rattle.search.specs.declared.delegations.Delegations.{Delegations}
 
-pub ready_of : (d : Delegations) (exclude : ℕ) → Ready (graph_of d exclude) d.edges.now.count d.edges.now.issuers d.edges.now.last d.edges.now.earlier d.subjects
+pub ready_of : (d : Delegations) (exclude : ℕ) → Ready (graph_of d exclude) d.count d.edges.now.issuers d.edges.now.last d.edges.now.earlier d.subjects
 ready_of d exclude = record {
   placed = record { issuer_lt = d.ready.placed.issuer_lt; audience_lt = d.ready.placed.audience_lt; grade_le = d.ready.placed.grade_le };
   count_le = d.ready.count_le;

@@ -52,8 +52,8 @@ loop-d-preserved c =
     indexing_more a.issuer.now a.subject.now l.d l.issuers l.last l.earlier l.invariant c.wide-r.result c.wide-u.result c.with.result
     (sym c.wide-r.ensures) (sym c.wide-u.ensures) (subject_lt (goal.at.loop-d-preserved c).After-wide-u) (issuer_lt (goal.at.loop-d-preserved c).After-wide-u) (omega (arith, c.requires.0)) c.with.ensures.0 c.with.ensures.1
 
-pub returns-clause-indexed : goal.returns-clause-indexed
-returns-clause-indexed c =
+pub returns : goal.returns
+returns c =
     let a = c.args in
     let l = c.loop-d in
     let e : l.d ≡ a.n = omega arith in

@@ -26,7 +26,7 @@ loop-next-init c =
     let a = c.args in
     let R = (ready_of c.args.delegations.now c.args.exclude) in
     chaining_start (gr (goal.at.loop-next-init c).Start) a.r a.u a.v a.buckets.now c.wide-next.result R (omega arith)
-    (subst (λ (z : ℕ). Last a.delegations.now.issuer.now a.delegations.now.subject.now a.delegations.now.edges.now.count a.r a.u z) (sym c.wide-next.ensures) (R.indexed.start a.r a.u c.requires.0 c.requires.1))
+    (subst (λ (z : ℕ). Last a.delegations.now.issuer.now a.delegations.now.subject.now a.delegations.now.count a.r a.u z) (sym c.wide-next.ensures) (R.indexed.start a.r a.u c.requires.0 c.requires.1))
 
 pub bounds-grades-d : goal.bounds-grades-d
 bounds-grades-d c = place (goal.at.bounds-grades-d c).In-loop-next

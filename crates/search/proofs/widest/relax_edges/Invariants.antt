@@ -5,7 +5,7 @@ use Rattle.search.proofs.widest.relax_edges.Given as goal
 
 abbrev pub invariant-loop-next : goal.invariant-loop-next
 invariant-loop-next l =
-    Chaining (graph_of l.delegations l.exclude) l.r l.u l.v l.delegations.edges.now.count l.delegations.edges.now.issuers l.delegations.edges.now.last l.delegations.edges.now.earlier l.delegations.subjects l.initial.buckets l.buckets l.next
+    Chaining (graph_of l.delegations l.exclude) l.r l.u l.v l.delegations.count l.delegations.edges.now.issuers l.delegations.edges.now.last l.delegations.edges.now.earlier l.delegations.subjects l.initial.buckets l.buckets l.next
 
 abbrev pub decreases-loop-next : goal.decreases-loop-next
 decreases-loop-next l = l.next

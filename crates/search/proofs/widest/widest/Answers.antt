@@ -112,4 +112,4 @@ returns c =
     let e : l.above ≡ 0 = omega arith in
     walk_end (gr (goal.at.returns c).Start) a.r a.levels.now l.buckets c.union-active.result l.settled
     (subst (λ (n : ℕ). Walk (gr (goal.at.returns c).Start) a.r a.levels.now l.buckets c.union-active.result l.settled n) e l.invariant)
-    a.delegations.now.edges.now.count a.delegations.now.edges.now.issuers a.delegations.now.edges.now.last a.delegations.now.edges.now.earlier a.delegations.now.subjects (ready_of c.args.delegations.now c.args.exclude) c.requires.sound c.union-active.ensures
+    a.delegations.now.count a.delegations.now.edges.now.issuers a.delegations.now.edges.now.last a.delegations.now.edges.now.earlier a.delegations.now.subjects (ready_of c.args.delegations.now c.args.exclude) c.requires.sound c.union-active.ensures
