@@ -8,7 +8,6 @@ ghost use Rattle.evaluation.specs.Result.{Evaluated};
 
 use crate::Evaluation;
 use crate::levels::levels;
-use caps::least;
 use places::{DelegationPlace, KeyPlace, wide};
 
 pub fn conveyed_power(v: Evaluation, delegation: DelegationPlace) -> u8
@@ -28,5 +27,5 @@ pub fn conveyed_power(v: Evaluation, delegation: DelegationPlace) -> u8
     }
     let row = levels(v, KeyPlace(wide(facts.subject[d])));
     let i = wide(facts.issuer[d]);
-    least(g, row[i])
+    g.min(row[i])
 }

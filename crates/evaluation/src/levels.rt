@@ -9,6 +9,7 @@ ghost use Rattle.evaluation.specs.Result.{Evaluated};
 
 use crate::Evaluation;
 use places::{KEY_LIMIT, KeyPlace, LEVEL_COUNT};
+use search::delegations::Delegations;
 
 // A byte for each key.
 pub fn levels(v: Evaluation, subject: KeyPlace) -> [u8; KEY_LIMIT]
@@ -19,19 +20,16 @@ pub fn levels(v: Evaluation, subject: KeyPlace) -> [u8; KEY_LIMIT]
     let grades = v.grades;
     let n = facts.delegations;
     let edges = search::edges::index(&facts.issuer, &facts.subject, n);
+    let delegations = Delegations {
+        issuer: &facts.issuer,
+        audience: &facts.audience,
+        subject: &facts.subject,
+        grades: &grades,
+        count: n,
+        edges: &edges,
+        subjects: v.subjects,
+    };
     let mut found = [0u64; KEY_LIMIT * LEVEL_COUNT];
-    search::search(
-        keyset::only(subject.0),
-        v.subjects,
-        0,
-        &facts.issuer,
-        &facts.audience,
-        &facts.subject,
-        &grades,
-        &edges.issuers,
-        &edges.last,
-        &edges.earlier,
-        &mut found,
-    );
+    search::search(&delegations, 0, keyset::only(subject.0), &mut found);
     search::levels::row_of(&found, subject)
 }

@@ -15,6 +15,7 @@ ghost use Rattle.evaluation.specs.Result.{Evaluated};
 use coverage::Facts;
 use places::{DELEGATION_LIMIT, KEY_LIMIT, LEVEL_COUNT};
 use search::Levels;
+use search::delegations::Delegations;
 
 #[derive(Clone, Copy)]
 pub struct Evaluation {
@@ -36,30 +37,26 @@ pub fn evaluate(facts: Facts) -> Evaluation
     ensures { (result.facts ≡ facts) × Evaluated result }
 {
     let n = facts.delegations;
-    let m = facts.revocations;
-    let subjects = coverage::positive::subjects(&facts.subject, n);
+    let subjects = coverage::positive::subjects(&facts);
     let edges = search::edges::index(&facts.issuer, &facts.subject, n);
-    let all = coverage::positive::powers(&facts.power, n);
+    let all = coverage::positive::powers(&facts);
+    let delegations = Delegations {
+        issuer: &facts.issuer,
+        audience: &facts.audience,
+        subject: &facts.subject,
+        grades: &all,
+        count: n,
+        edges: &edges,
+        subjects,
+    };
     let mut found = [0u64; KEY_LIMIT * LEVEL_COUNT];
-    search::search(
-        subjects,
-        subjects,
-        0,
-        &facts.issuer,
-        &facts.audience,
-        &facts.subject,
-        &all,
-        &edges.issuers,
-        &edges.last,
-        &edges.earlier,
-        &mut found,
-    );
+    search::search(&delegations, 0, subjects, &mut found);
     let reach = search::levels::reach(&found);
-    let revokers = coverage::revokers(&facts.revoker, &facts.target, m, n);
-    let excluded = coverage::coverage(&facts.subject, n, subjects, &revokers, &found);
-    let contexts = coverage::contexts::contexts(&facts.target, m, n, &excluded);
-    let live = live_set::live_set(facts, edges, subjects, contexts, &revokers, &excluded);
-    let grades = caps::caps(facts, edges, subjects, contexts, &excluded, &live);
+    let revokers = coverage::revokers(&facts);
+    let excluded = coverage::coverage(&facts, subjects, &revokers, &found);
+    let contexts = coverage::contexts::contexts(&facts, &excluded);
+    let live = live_set::live_set(&facts, &edges, subjects, &contexts, &revokers, &excluded);
+    let grades = caps::caps(&facts, &edges, subjects, &contexts, &excluded, &live);
     Evaluation {
         facts,
         subjects,

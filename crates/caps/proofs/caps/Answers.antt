@@ -9,7 +9,7 @@ use Rattle.caps.proofs.caps.Goals.{After-living-alive}
 use Rattle.caps.proofs.caps.Goals as goal
 
 -- those that live
-alive-is : (c : After-living-alive) → Living c.args.facts c.args.excluded.now c.living-alive.result
+alive-is : (c : After-living-alive) → Living c.args.facts.now c.args.excluded.now c.living-alive.result
 alive-is c = living_is c.requires.starts.lives c.living-alive.ensures
 
 pub living-alive-requires : goal.living-alive-requires
@@ -18,20 +18,19 @@ living-alive-requires c = (c.requires.fit.0.revocations_le, c.requires.fit.0.del
 pub loop-grades-init : goal.loop-grades-init
 loop-grades-init c = rising_start c.requires.starts
 
+pub invariant_of-delegations : goal.invariant_of-delegations
+invariant_of-delegations c =
+    let p = c.requires in
+    let l = c.loop-grades in
+    record { ready = ready c.args.facts.now l.grades 0 p.fit.0 (grades_live p.fit.0 l.invariant.lives) p.indexed p.fit.1 }
+
 pub cap_round-next-requires : goal.cap_round-next-requires
 cap_round-next-requires c =
-    let a = c.args in
-    let p = c.requires in
-    let l = c.loop-grades in record {
-      ready = ready a.facts l.grades 0 p.fit.0 (grades_live p.fit.0 l.invariant.lives) p.indexed p.fit.1;
-      count_le_revocation_limit = (
-        omega (arith, p.nets.1.count_le, p.fit.0.revocations_le),
-        living_within p.fit.0 (alive-is (goal.at.cap_round-next-requires c).After-living-alive),
-        agreeing p.nets.1,
-        l.invariant.lives.len,
-      );
-      by_index = p.fit.0.subject_lt;
-      by_index_2 = p.fit.0.power_le;
+    let p = c.requires in record {
+      within = living_within p.fit.0 (alive-is (goal.at.cap_round-next-requires c).After-living-alive);
+      agreeing = agreeing p.nets.1;
+      subject_lt = p.fit.0.subject_lt;
+      power_le = p.fit.0.power_le;
     }
 
 pub loop-grades-smaller : goal.loop-grades-smaller
@@ -40,9 +39,9 @@ loop-grades-smaller c =
     let p = c.requires in
     let l = c.loop-grades in
     let f = c.differ.ensures.yes c.if-differ.true in
-    let up = rises a.facts a.excluded.now p.fit.0 p.nets.0 a.contexts.count a.contexts.exclude a.contexts.members p.nets.1 c.living-alive.result (alive-is (goal.at.loop-grades-smaller c).After-living-alive)
+    let up = rises a.facts.now a.excluded.now p.fit.0 p.nets.0 a.contexts.now.count a.contexts.now.exclude a.contexts.now.members p.nets.1 c.living-alive.result (alive-is (goal.at.loop-grades-smaller c).After-living-alive)
     l.grades l.invariant c.cap_round-next.result c.cap_round-next.ensures in
-    let next = rising_next a.facts a.excluded.now p.fit.0 p.nets.0 a.contexts.count a.contexts.exclude a.contexts.members p.nets.1 c.living-alive.result (alive-is (goal.at.loop-grades-smaller c).After-living-alive)
+    let next = rising_next a.facts.now a.excluded.now p.fit.0 p.nets.0 a.contexts.now.count a.contexts.now.exclude a.contexts.now.members p.nets.1 c.living-alive.result (alive-is (goal.at.loop-grades-smaller c).After-living-alive)
     l.grades l.invariant c.cap_round-next.result c.cap_round-next.ensures in
     room_less l.grades c.cap_round-next.result f.0 up (grades_live p.fit.0 next.lives).le f.1 (omega (arith, f.2, up f.0))
 
@@ -51,7 +50,7 @@ loop-grades-preserved c =
     let a = c.args in
     let p = c.requires in
     let l = c.loop-grades in
-    rising_next a.facts a.excluded.now p.fit.0 p.nets.0 a.contexts.count a.contexts.exclude a.contexts.members p.nets.1 c.living-alive.result (alive-is (goal.at.loop-grades-preserved c).After-living-alive)
+    rising_next a.facts.now a.excluded.now p.fit.0 p.nets.0 a.contexts.now.count a.contexts.now.exclude a.contexts.now.members p.nets.1 c.living-alive.result (alive-is (goal.at.loop-grades-preserved c).After-living-alive)
     l.grades l.invariant c.cap_round-next.result c.cap_round-next.ensures
 
 pub returns-else-differ : goal.returns-else-differ
@@ -59,5 +58,5 @@ returns-else-differ c =
     let a = c.args in
     let p = c.requires in
     let l = c.loop-grades in
-    capped a.facts a.excluded.now p.fit.0 p.nets.0 a.contexts.count a.contexts.exclude a.contexts.members p.nets.1 c.living-alive.result (alive-is (goal.at.returns-else-differ c).After-living-alive)
+    capped a.facts.now a.excluded.now p.fit.0 p.nets.0 a.contexts.now.count a.contexts.now.exclude a.contexts.now.members p.nets.1 c.living-alive.result (alive-is (goal.at.returns-else-differ c).After-living-alive)
     l.grades l.invariant c.cap_round-next.result c.cap_round-next.ensures (c.differ.ensures.no c.if-differ.false)

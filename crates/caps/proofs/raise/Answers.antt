@@ -11,41 +11,41 @@ use Rattle.caps.proofs.raise.Goals.{After-level-level, After-wide-d}
 use Rattle.caps.proofs.raise.Goals as goal
 
 place : (c : After-wide-d) → c.wide-d.result < delegation_limit
-place c = omega (arith, c.wide-d.ensures, c.requires.within.0 c.lowest-j.result (c.loop-left.invariant.1.left_in.within c.lowest-j.result c.lowest-j.ensures.1))
+place c = omega (arith, c.wide-d.ensures, c.requires.within c.lowest-j.result (c.loop-left.invariant.1.left_in.within c.lowest-j.result c.lowest-j.ensures.1))
 
 -- the byte that is read, at the delegation's own places
 level-is : (c : After-level-level) → let a = c.args in let d = c.wide-d.result in
-    c.level-level.result ≡ height a.found.now (get_or a.subject.now d 0) (get_or a.issuer.now d 0)
+    c.level-level.result ≡ height a.found.now (get_or a.delegations.now.subject.now d 0) (get_or a.delegations.now.issuer.now d 0)
 level-is c =
     let a = c.args in
     c.level-level.ensures ∙ ap (λ (z : ℕ). height a.found.now z c.wide-in-loop-left.result) c.wide.ensures
-    ∙ ap (λ (z : ℕ). height a.found.now (get_or a.subject.now c.wide-d.result 0) z) c.wide-in-loop-left.ensures
+    ∙ ap (λ (z : ℕ). height a.found.now (get_or a.delegations.now.subject.now c.wide-d.result 0) z) c.wide-in-loop-left.ensures
 
 pub loop-left-init : goal.loop-left-init
 loop-left-init c =
     let a = c.args in
-    (c.requires.within.1, putting_none a.members a.target.now (lift a.issuer.now a.subject.now a.power.now a.grades.now a.found.now) a.next.now)
+    (omega arith, putting_none a.members a.target.now (lift a.delegations.now.issuer.now a.delegations.now.subject.now a.power.now a.delegations.now.grades.now a.found.now) a.next.now)
 
-pub bounds-subject-d : goal.bounds-subject-d
-bounds-subject-d c = place (goal.at.bounds-subject-d c).After-wide-d
+pub bounds-delegations-d : goal.bounds-delegations-d
+bounds-delegations-d c = place (goal.at.bounds-delegations-d c).After-wide-d
 
-pub bounds-issuer-d : goal.bounds-issuer-d
-bounds-issuer-d c = place (goal.at.bounds-issuer-d c).After-wide-d
+pub bounds-delegations-d-in-loop-left : goal.bounds-delegations-d-in-loop-left
+bounds-delegations-d-in-loop-left c = place (goal.at.bounds-delegations-d-in-loop-left c).After-wide-d
 
 pub level-level-requires : goal.level-level-requires
 level-level-requires c = (
-  omega (arith, c.wide.ensures, c.requires.by_index_2 c.wide-d.result),
-  omega (arith, c.wide-in-loop-left.ensures, c.requires.by_index c.wide-d.result),
+  omega (arith, c.wide.ensures, c.requires.subject_lt c.wide-d.result),
+  omega (arith, c.wide-in-loop-left.ensures, c.args.delegations.now.ready.placed.issuer_lt c.wide-d.result),
 )
 
-pub bounds-grades-d : goal.bounds-grades-d
-bounds-grades-d c = place (goal.at.bounds-grades-d c).After-wide-d
+pub bounds-delegations-d-in-loop-left-2 : goal.bounds-delegations-d-in-loop-left-2
+bounds-delegations-d-in-loop-left-2 c = place (goal.at.bounds-delegations-d-in-loop-left-2 c).After-wide-d
 
 pub bounds-power-d : goal.bounds-power-d
 bounds-power-d c = place (goal.at.bounds-power-d c).After-wide-d
 
 pub overflow_add-power : goal.overflow_add-power
-overflow_add-power c = omega (arith, c.requires.by_index_3 c.wide-d.result)
+overflow_add-power c = omega (arith, c.requires.power_le c.wide-d.result)
 
 pub bounds-next-d : goal.bounds-next-d
 bounds-next-d c = omega (arith, place (goal.at.bounds-next-d c).After-wide-d)
@@ -59,11 +59,11 @@ loop-left-preserved c =
     let a = c.args in
     let l = c.loop-left in
     let d = c.wide-d.result in
-    let v : c.most.result ≡ lift a.issuer.now a.subject.now a.power.now a.grades.now a.found.now d =
-    c.most.ensures ∙ ap (max (get_or a.grades.now d 0)) (c.least.ensures ∙ ap (min (get_or a.power.now d 0 + 1)) (level-is (goal.at.loop-left-preserved c).After-level-level)) in
+    let v : c.max.result ≡ lift a.delegations.now.issuer.now a.delegations.now.subject.now a.power.now a.delegations.now.grades.now a.found.now d =
+    c.max.ensures ∙ ap (max (get_or a.delegations.now.grades.now d 0)) (c.min.ensures ∙ ap (min (get_or a.power.now d 0 + 1)) (level-is (goal.at.loop-left-preserved c).After-level-level)) in
     let P = putting_more l.left c.without-left.result c.lowest-j.result l.invariant.1 c.lowest-j.ensures.1 c.without-left.ensures.0 c.without-left.ensures.1
     d _ (sym c.wide-d.ensures) (omega (arith, place (goal.at.loop-left-preserved c).After-wide-d, l.invariant.0)) v in
-    (P.same ∙ c.requires.within.1, P)
+    (omega (arith, P.same), P)
 
 pub returns : goal.returns
 returns c = putting_all c.loop-left-test.false c.loop-left.invariant.1

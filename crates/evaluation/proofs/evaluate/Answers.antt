@@ -33,32 +33,32 @@ nets c =
     let e = c.args.facts in
     found_positive e c.requires g.result g.ensures (found_over e g.result 0 (found_less c.subjects-subjects.result c.search.result c.search.ensures.1 c.search.ensures.0))) d h _ (c.revokers-revokers.ensures.is d h) w X) c.coverage-excluded.ensures
 
-pub subjects-subjects-requires : goal.subjects-subjects-requires
-subjects-subjects-requires c = (c.requires.delegations_le, c.requires.subject_lt)
-
 pub index-edges-requires : goal.index-edges-requires
 index-edges-requires c = (c.requires.delegations_le, c.requires.issuer_lt, c.requires.subject_lt)
 
-pub powers-all-requires : goal.powers-all-requires
-powers-all-requires c = (c.requires.delegations_le, c.requires.power_le)
+pub invariant_of-delegations : goal.invariant_of-delegations
+invariant_of-delegations c =
+    let g = c.powers-all in
+    let e = c.args.facts in
+    record { ready = ready e g.result 0 c.requires (grades_all e c.requires g.result g.ensures) c.index-edges.ensures c.subjects-subjects.ensures }
 
 pub search-requires : goal.search-requires
-search-requires c =
-    let g = c.powers-all in
-    let e = c.args.facts in record {
-      ready = ready e g.result 0 c.requires (grades_all e c.requires g.result g.ensures) c.index-edges.ensures c.subjects-subjects.ensures;
-      sound = sound_zeros (seen e g.result 0);
-      levels_len = refl;
-    }
+search-requires c = sound_zeros (seen c.args.facts c.powers-all.result 0)
+
+pub powers-all-requires : goal.powers-all-requires
+powers-all-requires c = record { delegations_le = c.requires.delegations_le; power_le = c.requires.power_le }
+
+pub subjects-subjects-requires : goal.subjects-subjects-requires
+subjects-subjects-requires c = record { delegations_le = c.requires.delegations_le; subject_lt = c.requires.subject_lt }
 
 pub revokers-revokers-requires : goal.revokers-revokers-requires
-revokers-revokers-requires c = (c.requires.revocations_le, c.requires.delegations_le, c.requires.revoker_lt)
+revokers-revokers-requires c = record { revocations_le = c.requires.revocations_le; delegations_le = c.requires.delegations_le; revoker_lt = c.requires.revoker_lt }
 
 pub coverage-excluded-requires : goal.coverage-excluded-requires
-coverage-excluded-requires c = (c.requires.delegations_le, c.requires.subject_lt)
+coverage-excluded-requires c = record { delegations_le = c.requires.delegations_le; subject_lt = c.requires.subject_lt }
 
 pub contexts-contexts-requires : goal.contexts-contexts-requires
-contexts-contexts-requires c = (c.requires.revocations_le, c.requires.delegations_le)
+contexts-contexts-requires c = record { revocations_le = c.requires.revocations_le; delegations_le = c.requires.delegations_le }
 
 pub live_set-live-requires : goal.live_set-live-requires
 live_set-live-requires c = record {

@@ -17,25 +17,28 @@ eligibles-waiting-requires c =
       by_index_3 = F.subject_lt;
     }
 
-pub loop-edges-init : goal.loop-edges-init
-loop-edges-init c =
+pub loop-grades-init : goal.loop-grades-init
+loop-grades-init c =
     let a = c.args in
     let p = c.requires in
-    usables_start a.facts a.excluded.now p.fit.0 p.revokers_by.1 p.revokers_by.0 c.plain-grades.ensures c.eligibles-waiting.ensures
+    usables_start a.facts.now a.excluded.now p.fit.0 p.revokers_by.1 p.revokers_by.0 c.plain-grades.ensures c.eligibles-waiting.ensures
+
+pub invariant_of-delegations : goal.invariant_of-delegations
+invariant_of-delegations c =
+    let a = c.args in
+    let p = c.requires in
+    let l = c.loop-grades in
+    record { ready = ready a.facts.now l.grades 0 p.fit.0 (grades_usable a.facts.now a.excluded.now p.fit.0 p.revokers_by.1 l.grades l.waiting l.invariant) p.indexed p.fit.1 }
 
 pub live_round-newly-requires : goal.live_round-newly-requires
 live_round-newly-requires c =
     let a = c.args in
     let p = c.requires in
-    let l = c.loop-edges in
+    let l = c.loop-grades in
     let N = p.revokers_by.1 in record {
-      ready = ready a.facts l.grades 0 p.fit.0 (grades_usable a.facts a.excluded.now p.fit.0 N l.grades l.waiting l.invariant) p.indexed p.fit.1;
-      count_le_revocation_limit = (
-        omega (arith, p.grouped.count_le, p.fit.0.revocations_le),
-        waiting_within a.facts a.excluded.now p.fit.0 N l.grades l.waiting l.invariant,
-        waiting_about a.facts a.excluded.now p.fit.0 N l.grades l.waiting l.invariant p.fit.1,
-      );
-      by_index = p.fit.0.subject_lt;
+      within = waiting_within a.facts.now a.excluded.now p.fit.0 N l.grades l.waiting l.invariant;
+      about = waiting_about a.facts.now a.excluded.now p.fit.0 N l.grades l.waiting l.invariant p.fit.1;
+      subject_lt = p.fit.0.subject_lt;
     }
 
 pub settled-requires : goal.settled-requires
@@ -49,33 +52,33 @@ pub returns-then-newly-eq0 : goal.returns-then-newly-eq0
 returns-then-newly-eq0 c =
     let a = c.args in
     let p = c.requires in
-    let l = c.loop-edges in
-    starts a.facts a.excluded.now p.fit.0 p.revokers_by.1 l.grades l.waiting l.invariant a.contexts.count a.contexts.exclude a.contexts.members p.grouped
-    c.live_round-newly.result c.live_round-newly.ensures.word c.if-newly-eq0.true p.fit.1 (found_over a.facts l.grades 0 c.live_round-newly.ensures.found) c.settled.ensures
+    let l = c.loop-grades in
+    starts a.facts.now a.excluded.now p.fit.0 p.revokers_by.1 l.grades l.waiting l.invariant a.contexts.now.count a.contexts.now.exclude a.contexts.now.members p.grouped
+    c.live_round-newly.result c.live_round-newly.ensures.word c.if-newly-eq0.true p.fit.1 (found_over a.facts.now l.grades 0 c.live_round-newly.ensures.found) c.settled.ensures
 
 pub join-requires : goal.join-requires
 join-requires c =
     let a = c.args in
     let p = c.requires in
-    let l = c.loop-edges in (
-      newly_within a.facts a.excluded.now p.fit.0 p.revokers_by.1 l.grades l.waiting l.invariant a.contexts.count a.contexts.exclude a.contexts.members p.grouped
+    let l = c.loop-grades in (
+      newly_within a.facts.now a.excluded.now p.fit.0 p.revokers_by.1 l.grades l.waiting l.invariant a.contexts.now.count a.contexts.now.exclude a.contexts.now.members p.grouped
           c.live_round-newly.result c.live_round-newly.ensures.word,
       l.invariant.len,
       p.fit.0.power_le,
     )
 
-pub loop-edges-smaller : goal.loop-edges-smaller
-loop-edges-smaller c =
+pub loop-grades-smaller : goal.loop-grades-smaller
+loop-grades-smaller c =
     let a = c.args in
     let p = c.requires in
-    let l = c.loop-edges in
-    waiting_less a.facts a.excluded.now p.fit.0 p.revokers_by.1 l.grades l.waiting l.invariant a.contexts.count a.contexts.exclude a.contexts.members p.grouped
+    let l = c.loop-grades in
+    waiting_less a.facts.now a.excluded.now p.fit.0 p.revokers_by.1 l.grades l.waiting l.invariant a.contexts.now.count a.contexts.now.exclude a.contexts.now.members p.grouped
     c.live_round-newly.result c.live_round-newly.ensures.word _ c.join.ensures c.minus-waiting.result c.minus-waiting.ensures (omega (arith, c.live_round-newly.type_inv)) c.if-newly-eq0.false
 
-pub loop-edges-preserved : goal.loop-edges-preserved
-loop-edges-preserved c =
+pub loop-grades-preserved : goal.loop-grades-preserved
+loop-grades-preserved c =
     let a = c.args in
     let p = c.requires in
-    let l = c.loop-edges in
-    usables_next a.facts a.excluded.now p.fit.0 p.revokers_by.1 l.grades l.waiting l.invariant a.contexts.count a.contexts.exclude a.contexts.members p.grouped
+    let l = c.loop-grades in
+    usables_next a.facts.now a.excluded.now p.fit.0 p.revokers_by.1 l.grades l.waiting l.invariant a.contexts.now.count a.contexts.now.exclude a.contexts.now.members p.grouped
     c.live_round-newly.result c.live_round-newly.ensures.word _ c.join.ensures c.minus-waiting.result c.minus-waiting.ensures

@@ -56,6 +56,6 @@ returns c =
     subst (λ (z : ℕ). EffectiveIs (places v.facts) (get_or v.facts.subject d 0) z (level_of (get_or row c.wide-i.result 0))) c.wide-i.ensures
     (subst (λ (z : ℕ). EffectiveIs (places v.facts) z c.wide-i.result (level_of (get_or row c.wide-i.result 0))) c.wide.ensures
     (c.levels-row.ensures c.wide-i.result (issuer_lt (goal.at.returns c).After-wide-i))) in
-    subst (λ (z : ℕ). ConveyedIs (places v.facts) d (level_of z)) (sym c.least.ensures)
+    subst (λ (z : ℕ). ConveyedIs (places v.facts) d (level_of z)) (sym c.min.ensures)
     (conveyed_plain v.facts v.grades K.grades d (omega (arith, c.if-g-eq0.false)) (λ p. let z = live_net v.facts v.excluded K.excluded p in omega (arith, c.if-excluded-d-ne0.false))
     (get_or row c.wide-i.result 0) q)

@@ -1,19 +1,18 @@
 -- `evaluation::levels::levels` meets its contract: one search with nobody excluded, by the final grades.
-use mathlib.Core.Path.{refl}
 use Rattle.search.proofs.Laws.Complete.{sound_zeros}
 use Rattle.coverage.proofs.Laws.Seek.{seen, ready, found_over, found_less}
 use Rattle.caps.proofs.Laws.Caps.{grades_live}
 use Rattle.evaluation.proofs.Laws.Ask.{effective_is}
 use Rattle.evaluation.proofs.levels.levels.Goals as goal
 
-pub search-requires : goal.search-requires
-search-requires c =
+pub invariant_of-delegations : goal.invariant_of-delegations
+invariant_of-delegations c =
     let v = c.args.v in
-    let K = c.requires.0 in record {
-      ready = ready v.facts v.grades 0 K.fit (grades_live K.fit K.grades.lives) c.index-edges.ensures K.subjects;
-      sound = sound_zeros (seen v.facts v.grades 0);
-      levels_len = refl;
-    }
+    let K = c.requires.0 in
+    record { ready = ready v.facts v.grades 0 K.fit (grades_live K.fit K.grades.lives) c.index-edges.ensures K.subjects }
+
+pub search-requires : goal.search-requires
+search-requires c = sound_zeros (seen c.args.v.facts c.args.v.grades 0)
 
 pub returns : goal.returns
 returns c =
