@@ -14,7 +14,7 @@ ghost use Rattle.search.specs.Index.{Indexed};
 ghost use Rattle.search.specs.Delegations.{graph_of};
 ghost use Rattle.search.specs.Levels.{height};
 ghost use Rattle.coverage.specs.Arrays.{Below, Differ};
-ghost use Rattle.coverage.specs.Places.{Fit, Subject};
+ghost use Rattle.coverage.specs.Places.{Subject};
 ghost use Rattle.coverage.specs.Coverage.{Nets};
 ghost use Rattle.coverage.specs.Contexts.{Within, Put, Grouped, Agreeing};
 ghost use Rattle.coverage.specs.Lives.{Starts};
@@ -56,28 +56,25 @@ fn living(
 // The caps of the delegations that the members name, raised to what their issuers' levels support.
 fn raise(
     members: u64,
-    target: &[u8; REVOCATION_LIMIT],
-    power: &[u8; DELEGATION_LIMIT],
+    facts: &Facts,
     delegations: &Delegations,
     found: &Levels,
     next: &mut [u8; DELEGATION_LIMIT],
 )
-    requires within { Within members target.now }
-    requires subject_lt { (d : ℕ) → get_or delegations.now.subject.now d 0 < key_limit }
-    requires power_le { (d : ℕ) → get_or power.now d 0 ≤ Admin }
-    ensures { Put members target.now (λ d v. v ≡ max (get_or delegations.now.grades.now d 0) (min (get_or power.now d 0 + 1) (height found.now (get_or delegations.now.subject.now d 0) (get_or delegations.now.issuer.now d 0)))) next.old next.new }
+    requires { Within members facts.now.target }
+    ensures { Put members facts.now.target (λ d v. v ≡ max (get_or delegations.now.grades.now d 0) (min (get_or facts.now.power d 0 + 1) (height found.now (get_or delegations.now.subject.now d 0) (get_or delegations.now.issuer.now d 0)))) next.old next.new }
 {
     let mut left = members;
     while left != 0 {
         let j = keyset::lowest(left);
         left = keyset::without(left, j);
-        let d = wide(target[j]);
+        let d = wide(facts.target[j]);
         let level = search::levels::level(
             found,
             KeyPlace(wide(delegations.subject[d])),
             KeyPlace(wide(delegations.issuer[d])),
         );
-        next[d] = delegations.grades[d].max((power[d] + 1).min(level));
+        next[d] = delegations.grades[d].max((facts.power[d] + 1).min(level));
     }
 }
 
@@ -85,48 +82,35 @@ fn raise(
 fn cap_context(
     members: u64,
     exclude: u64,
-    target: &[u8; REVOCATION_LIMIT],
-    power: &[u8; DELEGATION_LIMIT],
+    facts: &Facts,
     delegations: &Delegations,
     next: &mut [u8; DELEGATION_LIMIT],
 )
-    requires within { Within members target.now }
-    requires subject_lt { (d : ℕ) → get_or delegations.now.subject.now d 0 < key_limit }
-    requires power_le { (d : ℕ) → get_or power.now d 0 ≤ Admin }
-    ensures { Put members target.now (Raised (graph_of delegations.now exclude) power.now) next.old next.new }
+    requires { Within members facts.now.target }
+    ensures { Put members facts.now.target (Raised (graph_of delegations.now exclude) facts.now.power) next.old next.new }
 {
     let mut found = [0u64; KEY_LIMIT * LEVEL_COUNT];
-    let from = members::roots(members, target, delegations.subject);
+    let from = members::roots(members, &facts.target, delegations);
     search::search(delegations, exclude, from, &mut found);
-    raise(members, target, power, delegations, &found, next);
+    raise(members, facts, delegations, &found, next);
 }
 
 // One round: every context with a live member, each under the caps before the round.
 fn cap_round(
     living: u64,
     contexts: &Groups,
-    target: &[u8; REVOCATION_LIMIT],
-    power: &[u8; DELEGATION_LIMIT],
+    facts: &Facts,
     delegations: &Delegations,
 ) -> [u8; DELEGATION_LIMIT]
-    requires within { Within living target.now }
-    requires agreeing { Agreeing contexts.now.count contexts.now.exclude contexts.now.members target.now }
-    requires subject_lt { (d : ℕ) → get_or delegations.now.subject.now d 0 < key_limit }
-    requires power_le { (d : ℕ) → get_or power.now d 0 ≤ Admin }
-    ensures { Lifted (graph_of delegations.now 0) power.now target.now living contexts.now.count contexts.now.exclude contexts.now.members result }
+    requires within { Within living facts.now.target }
+    requires agreeing { Agreeing contexts.now.count contexts.now.exclude contexts.now.members facts.now.target }
+    ensures { Lifted (graph_of delegations.now 0) facts.now.power facts.now.target living contexts.now.count contexts.now.exclude contexts.now.members result }
 {
     let mut next = *delegations.grades;
     for c in 0..contexts.count {
         let m = keyset::meet(contexts.members[c], living);
         if m != 0 {
-            cap_context(
-                m,
-                contexts.exclude[c],
-                target,
-                power,
-                delegations,
-                &mut next,
-            );
+            cap_context(m, contexts.exclude[c], facts, delegations, &mut next);
         }
     }
     next
@@ -155,7 +139,7 @@ pub fn caps(
     excluded: &[u64; DELEGATION_LIMIT],
     live: &[u8; DELEGATION_LIMIT],
 ) -> [u8; DELEGATION_LIMIT]
-    requires fit { Fit facts.now × Word subjects (Subject facts.now) }
+    requires subjects { Word subjects (Subject facts.now) }
     requires indexed { Indexed facts.now.issuer facts.now.subject facts.now.delegations edges.now.issuers edges.now.last edges.now.earlier }
     requires nets { Nets facts.now excluded.now × Grouped facts.now.target excluded.now facts.now.revocations facts.now.delegations contexts.now.count contexts.now.exclude contexts.now.members }
     requires starts { Starts facts.now live.now }
@@ -175,7 +159,7 @@ pub fn caps(
             edges,
             subjects,
         };
-        let next = cap_round(alive, contexts, &facts.target, &facts.power, &delegations);
+        let next = cap_round(alive, contexts, facts, &delegations);
         if differ(&next, &grades) {
             grades = next;
         } else {

@@ -1,8 +1,8 @@
 // Covered delegations that share one exclusion set, and therefore one search: N(d) depends only on who revoked d, so one key's
 // revocation spree yields one set.
 
-ghost use Rattle.std.specs.Prelude.{◌<◌, ◌≤◌, unwrap_or};
-ghost use Rattle.places.specs.Limits.{delegation_limit, revocation_limit};
+ghost use Rattle.std.specs.Prelude.{◌≤◌, unwrap_or};
+ghost use Rattle.places.specs.Limits.{revocation_limit};
 ghost use Rattle.coverage.specs.Contexts.{Sought, Grouped};
 
 use crate::Facts;
@@ -33,8 +33,6 @@ fn find(exclude: &[u64; REVOCATION_LIMIT], count: usize, w: u64) -> Option<usize
 
 // The contexts of the covered delegations, by the revocations that name them.
 pub fn contexts(facts: &Facts, excluded: &[u64; DELEGATION_LIMIT]) -> Groups
-    requires revocations_le { facts.now.revocations ≤ revocation_limit }
-    requires delegations_le { facts.now.delegations ≤ delegation_limit }
     ensures { Grouped facts.now.target excluded.now facts.now.revocations facts.now.delegations result.count result.exclude result.members }
 {
     let mut count = 0;

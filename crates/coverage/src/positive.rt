@@ -1,8 +1,6 @@
 // Stratum 1: positive power. Every held delegation is usable at its stated power, and nobody is excluded.
 
-ghost use Rattle.std.specs.Prelude.{◌≡◌, ℕ, ◌+◌, ◌<◌, ◌≤◌, get_or};
-ghost use Rattle.places.specs.Limits.{key_limit, delegation_limit};
-ghost use Rattle.rules.specs.Rules.{Admin};
+ghost use Rattle.std.specs.Prelude.{◌≡◌, ◌+◌, get_or};
 ghost use Rattle.search.specs.Sets.{Word};
 ghost use Rattle.coverage.specs.Arrays.{Filled};
 ghost use Rattle.coverage.specs.Places.{Subject};
@@ -12,8 +10,6 @@ use places::{DELEGATION_LIMIT, wide};
 
 // The subjects of the held delegations.
 pub fn subjects(facts: &Facts) -> u64
-    requires delegations_le { facts.now.delegations ≤ delegation_limit }
-    requires subject_lt { (d : ℕ) → get_or facts.now.subject d 0 < key_limit }
     ensures { Word result (Subject facts.now) }
 {
     let mut w = 0;
@@ -25,8 +21,6 @@ pub fn subjects(facts: &Facts) -> u64
 
 // The grades of the held delegations at their stated power.
 pub fn powers(facts: &Facts) -> [u8; DELEGATION_LIMIT]
-    requires delegations_le { facts.now.delegations ≤ delegation_limit }
-    requires power_le { (d : ℕ) → get_or facts.now.power d 0 ≤ Admin }
     ensures { Filled facts.now.delegations (λ d v. v ≡ get_or facts.now.power d 0 + 1) result }
 {
     let mut grades = [0u8; DELEGATION_LIMIT];

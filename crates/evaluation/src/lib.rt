@@ -9,7 +9,6 @@ pub mod positive;
 pub mod standing;
 
 ghost use Rattle.std.specs.Prelude.{◌≡◌};
-ghost use Rattle.coverage.specs.Places.{Fit};
 ghost use Rattle.evaluation.specs.Result.{Evaluated};
 
 use coverage::Facts;
@@ -33,7 +32,6 @@ pub struct Evaluation {
 }
 
 pub fn evaluate(facts: Facts) -> Evaluation
-    requires { Fit facts }
     ensures { (result.facts ≡ facts) × Evaluated result }
 {
     let n = facts.delegations;

@@ -16,7 +16,7 @@ ghost use Rattle.search.specs.Index.{Indexed};
 ghost use Rattle.search.specs.Delegations.{graph_of};
 ghost use Rattle.search.specs.Levels.{Found};
 ghost use Rattle.coverage.specs.Arrays.{Filled, Below};
-ghost use Rattle.coverage.specs.Places.{Fit, Subject};
+ghost use Rattle.coverage.specs.Places.{Subject};
 ghost use Rattle.coverage.specs.Coverage.{RevokersBy, Nets};
 ghost use Rattle.coverage.specs.Contexts.{Within, Put, Grouped, In};
 ghost use Rattle.coverage.specs.Lives.{Starts};
@@ -121,12 +121,11 @@ fn judge(
     target: &[u8; REVOCATION_LIMIT],
     delegations: &Delegations,
 ) -> u64
-    requires within { Within members target.now }
-    requires subject_lt { (d : ℕ) → get_or delegations.now.subject.now d 0 < key_limit }
+    requires { Within members target.now }
     ensures { Word result (Among members (λ j. Judged (graph_of delegations.now exclude) (get_or target.now j 0))) }
 {
     let mut found = [0u64; KEY_LIMIT * LEVEL_COUNT];
-    let from = members::roots(members, target, delegations.subject);
+    let from = members::roots(members, target, delegations);
     search::search(delegations, exclude, from, &mut found);
     members::reached(members, target, delegations, &found)
 }
@@ -138,8 +137,7 @@ fn newly_live(
     target: &[u8; REVOCATION_LIMIT],
     delegations: &Delegations,
 ) -> u64
-    requires within { Within candidates target.now }
-    requires subject_lt { (d : ℕ) → get_or delegations.now.subject.now d 0 < key_limit }
+    requires { Within candidates target.now }
     ensures { Word result (In contexts.now.count contexts.now.members (λ c j. (bit candidates j ≡ 1) × Judged (graph_of delegations.now (get_or contexts.now.exclude c 0)) (get_or target.now j 0))) }
 {
     let mut w = 0;
@@ -164,7 +162,6 @@ fn live_round(
 ) -> u64
     requires within { Within waiting target.now }
     requires about { (j : ℕ) → bit waiting j ≡ 1 → bit delegations.now.subjects (get_or delegations.now.subject.now (get_or target.now j 0) 0) ≡ 1 }
-    requires subject_lt { (d : ℕ) → get_or delegations.now.subject.now d 0 < key_limit }
     ensures found { Found (Holds (graph_of delegations.now 0)) delegations.now.subjects base.new }
     ensures word { Word result (In contexts.now.count contexts.now.members (λ c j. (bit waiting j ≡ 1) × Judged (graph_of delegations.now (get_or contexts.now.exclude c 0)) (get_or target.now j 0))) }
 {
@@ -245,7 +242,7 @@ pub fn live_set(
     revokers: &[u64; DELEGATION_LIMIT],
     excluded: &[u64; DELEGATION_LIMIT],
 ) -> [u8; DELEGATION_LIMIT]
-    requires fit { Fit facts.now × Word subjects (Subject facts.now) }
+    requires subjects { Word subjects (Subject facts.now) }
     requires indexed { Indexed facts.now.issuer facts.now.subject facts.now.delegations edges.now.issuers edges.now.last edges.now.earlier }
     requires revokers_by { RevokersBy facts.now.revoker facts.now.target facts.now.revocations facts.now.delegations revokers.now × Nets facts.now excluded.now }
     requires grouped { Grouped facts.now.target excluded.now facts.now.revocations facts.now.delegations contexts.now.count contexts.now.exclude contexts.now.members }

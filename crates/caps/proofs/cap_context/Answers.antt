@@ -11,4 +11,4 @@ pub returns : goal.returns
 returns c =
     let a = c.args in
     raised_members (graph_of a.delegations.now a.exclude) a.members c.roots-from.result c.search.result
-    a.target.now _ c.roots-from.ensures c.search.ensures.0 c.search.ensures.1 c.raise.ensures
+    a.facts.now.target _ c.roots-from.ensures c.search.ensures.0 c.search.ensures.1 c.raise.ensures

@@ -11,15 +11,10 @@ use Rattle.caps.proofs.cap_round.Goals as goal
 pub loop-c-init : goal.loop-c-init
 loop-c-init c =
     let a = c.args in
-    lifted_none (graph_of a.delegations.now 0) a.power.now a.target.now a.living a.contexts.now.exclude a.contexts.now.members
+    lifted_none (graph_of a.delegations.now 0) a.facts.now.power a.facts.now.target a.living a.contexts.now.exclude a.contexts.now.members
 
 pub cap_context-requires : goal.cap_context-requires
-cap_context-requires c =
-    let p = c.requires in record {
-      within = λ j b. p.within j (omega (arith, c.meet-m.ensures j, bit_le c.args.living j));
-      subject_lt = p.subject_lt;
-      power_le = p.power_le;
-    }
+cap_context-requires c = λ j b. c.requires.within j (omega (arith, c.meet-m.ensures j, bit_le c.args.living j))
 
 pub loop-c-preserved : goal.loop-c-preserved
 loop-c-preserved c =
@@ -32,12 +27,12 @@ loop-c-preserved c =
     elim c.if-m-ne0.branch [
       | then-m-ne0 w ↦
           rw w.next-is
-          (lifted_more G a.power.now a.target.now a.living l.c exclude members l.next l.invariant c.meet-m.result
+          (lifted_more G a.facts.now.power a.facts.now.target a.living l.c exclude members l.next l.invariant c.meet-m.result
           c.loop-c-test.true c.requires.agreeing
           (λ j b. (omega (arith, is j, bit_le (get_or members l.c 0) j), omega (arith, is j, bit_le a.living j)))
           (λ j p q. omega (arith, is j)) _ w.cap_context.ensures)
       | else-m-ne0 w ↦
           rw w.next-is
-          (lifted_skip G a.power.now a.target.now a.living l.c exclude members l.next l.invariant
+          (lifted_skip G a.facts.now.power a.facts.now.target a.living l.c exclude members l.next l.invariant
           (λ j p q. bit_zero c.meet-m.result j w.if-m-ne0.false (omega (arith, is j))))
     ]

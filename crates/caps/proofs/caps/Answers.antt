@@ -13,7 +13,7 @@ alive-is : (c : After-living-alive) → Living c.args.facts.now c.args.excluded.
 alive-is c = living_is c.requires.starts.lives c.living-alive.ensures
 
 pub living-alive-requires : goal.living-alive-requires
-living-alive-requires c = (c.requires.fit.0.revocations_le, c.requires.fit.0.delegations_le)
+living-alive-requires c = (c.args.facts.now.fit.revocations_le, c.args.facts.now.fit.delegations_le)
 
 pub loop-grades-init : goal.loop-grades-init
 loop-grades-init c = rising_start c.requires.starts
@@ -22,15 +22,13 @@ pub invariant_of-delegations : goal.invariant_of-delegations
 invariant_of-delegations c =
     let p = c.requires in
     let l = c.loop-grades in
-    record { ready = ready c.args.facts.now l.grades 0 p.fit.0 (grades_live p.fit.0 l.invariant.lives) p.indexed p.fit.1 }
+    record { ready = ready c.args.facts.now l.grades 0 c.args.facts.now.fit (grades_live c.args.facts.now.fit l.invariant.lives) p.indexed p.subjects; subject_lt = c.args.facts.now.fit.subject_lt }
 
 pub cap_round-next-requires : goal.cap_round-next-requires
 cap_round-next-requires c =
     let p = c.requires in record {
-      within = living_within p.fit.0 (alive-is (goal.at.cap_round-next-requires c).After-living-alive);
+      within = living_within c.args.facts.now.fit (alive-is (goal.at.cap_round-next-requires c).After-living-alive);
       agreeing = agreeing p.nets.1;
-      subject_lt = p.fit.0.subject_lt;
-      power_le = p.fit.0.power_le;
     }
 
 pub loop-grades-smaller : goal.loop-grades-smaller
@@ -39,18 +37,18 @@ loop-grades-smaller c =
     let p = c.requires in
     let l = c.loop-grades in
     let f = c.differ.ensures.yes c.if-differ.true in
-    let up = rises a.facts.now a.excluded.now p.fit.0 p.nets.0 a.contexts.now.count a.contexts.now.exclude a.contexts.now.members p.nets.1 c.living-alive.result (alive-is (goal.at.loop-grades-smaller c).After-living-alive)
+    let up = rises a.facts.now a.excluded.now c.args.facts.now.fit p.nets.0 a.contexts.now.count a.contexts.now.exclude a.contexts.now.members p.nets.1 c.living-alive.result (alive-is (goal.at.loop-grades-smaller c).After-living-alive)
     l.grades l.invariant c.cap_round-next.result c.cap_round-next.ensures in
-    let next = rising_next a.facts.now a.excluded.now p.fit.0 p.nets.0 a.contexts.now.count a.contexts.now.exclude a.contexts.now.members p.nets.1 c.living-alive.result (alive-is (goal.at.loop-grades-smaller c).After-living-alive)
+    let next = rising_next a.facts.now a.excluded.now c.args.facts.now.fit p.nets.0 a.contexts.now.count a.contexts.now.exclude a.contexts.now.members p.nets.1 c.living-alive.result (alive-is (goal.at.loop-grades-smaller c).After-living-alive)
     l.grades l.invariant c.cap_round-next.result c.cap_round-next.ensures in
-    room_less l.grades c.cap_round-next.result f.0 up (grades_live p.fit.0 next.lives).le f.1 (omega (arith, f.2, up f.0))
+    room_less l.grades c.cap_round-next.result f.0 up (grades_live c.args.facts.now.fit next.lives).le f.1 (omega (arith, f.2, up f.0))
 
 pub loop-grades-preserved : goal.loop-grades-preserved
 loop-grades-preserved c =
     let a = c.args in
     let p = c.requires in
     let l = c.loop-grades in
-    rising_next a.facts.now a.excluded.now p.fit.0 p.nets.0 a.contexts.now.count a.contexts.now.exclude a.contexts.now.members p.nets.1 c.living-alive.result (alive-is (goal.at.loop-grades-preserved c).After-living-alive)
+    rising_next a.facts.now a.excluded.now c.args.facts.now.fit p.nets.0 a.contexts.now.count a.contexts.now.exclude a.contexts.now.members p.nets.1 c.living-alive.result (alive-is (goal.at.loop-grades-preserved c).After-living-alive)
     l.grades l.invariant c.cap_round-next.result c.cap_round-next.ensures
 
 pub returns-else-differ : goal.returns-else-differ
@@ -58,5 +56,5 @@ returns-else-differ c =
     let a = c.args in
     let p = c.requires in
     let l = c.loop-grades in
-    capped a.facts.now a.excluded.now p.fit.0 p.nets.0 a.contexts.now.count a.contexts.now.exclude a.contexts.now.members p.nets.1 c.living-alive.result (alive-is (goal.at.returns-else-differ c).After-living-alive)
+    capped a.facts.now a.excluded.now c.args.facts.now.fit p.nets.0 a.contexts.now.count a.contexts.now.exclude a.contexts.now.members p.nets.1 c.living-alive.result (alive-is (goal.at.returns-else-differ c).After-living-alive)
     l.grades l.invariant c.cap_round-next.result c.cap_round-next.ensures (c.differ.ensures.no c.if-differ.false)

@@ -23,7 +23,7 @@ positive : (c : After-search) → Found (Positive (places c.args.facts)) c.subje
 positive c =
     let g = c.powers-all in
     let e = c.args.facts in
-    found_positive e c.requires g.result g.ensures (found_over e g.result 0 (found_less c.subjects-subjects.result c.search.result c.search.ensures.1 c.search.ensures.0))
+    found_positive e c.args.facts.fit g.result g.ensures (found_over e g.result 0 (found_less c.subjects-subjects.result c.search.result c.search.ensures.1 c.search.ensures.0))
 
 -- the words are N(d)
 nets : (c : After-coverage-excluded) → Nets c.args.facts c.coverage-excluded.result
@@ -31,38 +31,23 @@ nets c =
     let s = c.subjects-subjects in
     filled_map (λ d w h X. net_is c.args.facts s.result (c.search.new.levels) s.ensures (let g = c.powers-all in
     let e = c.args.facts in
-    found_positive e c.requires g.result g.ensures (found_over e g.result 0 (found_less c.subjects-subjects.result c.search.result c.search.ensures.1 c.search.ensures.0))) d h _ (c.revokers-revokers.ensures.is d h) w X) c.coverage-excluded.ensures
+    found_positive e c.args.facts.fit g.result g.ensures (found_over e g.result 0 (found_less c.subjects-subjects.result c.search.result c.search.ensures.1 c.search.ensures.0))) d h _ (c.revokers-revokers.ensures.is d h) w X) c.coverage-excluded.ensures
 
 pub index-edges-requires : goal.index-edges-requires
-index-edges-requires c = (c.requires.delegations_le, c.requires.issuer_lt, c.requires.subject_lt)
+index-edges-requires c = (c.args.facts.fit.delegations_le, c.args.facts.fit.issuer_lt, c.args.facts.fit.subject_lt)
 
 pub invariant_of-delegations : goal.invariant_of-delegations
 invariant_of-delegations c =
     let g = c.powers-all in
     let e = c.args.facts in
-    record { ready = ready e g.result 0 c.requires (grades_all e c.requires g.result g.ensures) c.index-edges.ensures c.subjects-subjects.ensures }
+    record { ready = ready e g.result 0 c.args.facts.fit (grades_all e c.args.facts.fit g.result g.ensures) c.index-edges.ensures c.subjects-subjects.ensures; subject_lt = e.fit.subject_lt }
 
 pub search-requires : goal.search-requires
 search-requires c = sound_zeros (seen c.args.facts c.powers-all.result 0)
 
-pub powers-all-requires : goal.powers-all-requires
-powers-all-requires c = record { delegations_le = c.requires.delegations_le; power_le = c.requires.power_le }
-
-pub subjects-subjects-requires : goal.subjects-subjects-requires
-subjects-subjects-requires c = record { delegations_le = c.requires.delegations_le; subject_lt = c.requires.subject_lt }
-
-pub revokers-revokers-requires : goal.revokers-revokers-requires
-revokers-revokers-requires c = record { revocations_le = c.requires.revocations_le; delegations_le = c.requires.delegations_le; revoker_lt = c.requires.revoker_lt }
-
-pub coverage-excluded-requires : goal.coverage-excluded-requires
-coverage-excluded-requires c = record { delegations_le = c.requires.delegations_le; subject_lt = c.requires.subject_lt }
-
-pub contexts-contexts-requires : goal.contexts-contexts-requires
-contexts-contexts-requires c = record { revocations_le = c.requires.revocations_le; delegations_le = c.requires.delegations_le }
-
 pub live_set-live-requires : goal.live_set-live-requires
 live_set-live-requires c = record {
-  fit = (c.requires, c.subjects-subjects.ensures);
+  subjects = c.subjects-subjects.ensures;
   indexed = c.index-edges.ensures;
   revokers_by = (c.revokers-revokers.ensures, nets (goal.at.live_set-live-requires c).After-coverage-excluded);
   grouped = c.contexts-contexts.ensures;
@@ -70,7 +55,7 @@ live_set-live-requires c = record {
 
 pub caps-grades-requires : goal.caps-grades-requires
 caps-grades-requires c = record {
-  fit = (c.requires, c.subjects-subjects.ensures);
+  subjects = c.subjects-subjects.ensures;
   indexed = c.index-edges.ensures;
   nets = (nets (goal.at.caps-grades-requires c).After-coverage-excluded, c.contexts-contexts.ensures);
   starts = c.live_set-live.ensures;
@@ -80,7 +65,7 @@ pub returns : goal.returns
 returns c = (
   refl,
   record {
-    fit = c.requires;
+    fit = c.args.facts.fit;
     subjects = c.subjects-subjects.ensures;
     found = positive (goal.at.returns c).After-search;
     reach = c.reach-reach.ensures;

@@ -9,10 +9,7 @@ pub search-requires : goal.search-requires
 search-requires c = sound_zeros (graph_of c.args.delegations.now 0)
 
 pub newly_live-requires : goal.newly_live-requires
-newly_live-requires c = record {
-  within = λ j b. c.requires.within j (c.reached-candidates.ensures.only j b).member;
-  subject_lt = c.requires.subject_lt;
-}
+newly_live-requires c = λ j b. c.requires.within j (c.reached-candidates.ensures.only j b).member
 
 pub returns : goal.returns
 returns c =

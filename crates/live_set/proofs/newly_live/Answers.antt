@@ -10,10 +10,7 @@ pub loop-c-init : goal.loop-c-init
 loop-c-init c = in_none _ _ _
 
 pub judge-found-requires : goal.judge-found-requires
-judge-found-requires c = record {
-  within = λ j b. c.requires.within j (omega (arith, c.meet-m.ensures j, bit_le c.args.candidates j));
-  subject_lt = c.requires.subject_lt;
-}
+judge-found-requires c = λ j b. c.requires j (omega (arith, c.meet-m.ensures j, bit_le c.args.candidates j))
 
 pub loop-c-preserved : goal.loop-c-preserved
 loop-c-preserved c =

@@ -34,14 +34,14 @@ loop-j-preserved c =
           rw (w.count-is, w.exclude-is, w.members-is)
           (grouping_more f.target excluded l.j f.delegations l.count l.exclude l.members G w.unwrap_or-c.result (get_or excluded c.wide-d.result 0)
           w.with.result (l.count + 1) S (omega (arith, c.wide-d.ensures, w.if-d-facts.true)) net_is (omega (arith, w.if-w-ne0.true))
-          (omega (arith, c.loop-j-test.true, c.requires.revocations_le)) w.with.ensures.0 w.with.ensures.1 (omega (arith, w.if-c-count.true)) (omega arith)
+          (omega (arith, c.loop-j-test.true, c.args.facts.now.fit.revocations_le)) w.with.ensures.0 w.with.ensures.1 (omega (arith, w.if-c-count.true)) (omega arith)
           (λ i h. subst (λ (y : ℕ). (i < l.count) ⊎ (i ≡ y)) (sym w.if-c-count.true) (one_more l.count i h)) (omega (arith, G.grouped.count_le)))
       | then-d-facts+then-w-ne0+else-c-count w ↦
           let S = subst (λ (z : ℕ). Sought l.exclude l.count (get_or excluded c.wide-d.result 0) z) (sym w.unwrap_or-c.ensures) w.find.ensures in
           rw (w.count-is, w.exclude-is, w.members-is)
           (grouping_more f.target excluded l.j f.delegations l.count l.exclude l.members G w.unwrap_or-c.result (get_or excluded c.wide-d.result 0)
           w.with.result l.count S (omega (arith, c.wide-d.ensures, w.if-d-facts.true)) net_is (omega (arith, w.if-w-ne0.true))
-          (omega (arith, c.loop-j-test.true, c.requires.revocations_le)) w.with.ensures.0 w.with.ensures.1 (omega (arith, w.if-c-count.false, S.le)) (omega arith)
+          (omega (arith, c.loop-j-test.true, c.args.facts.now.fit.revocations_le)) w.with.ensures.0 w.with.ensures.1 (omega (arith, w.if-c-count.false, S.le)) (omega arith)
           (λ i h. inl h) (omega (arith, G.grouped.count_le)))
       | then-d-facts+else-w-ne0 w ↦
           rw (w.count-is, w.exclude-is, w.members-is)

@@ -12,7 +12,7 @@ use Rattle.coverage.proofs.members.reached.Goals.{After-reached, After-wide-d}
 use Rattle.coverage.proofs.members.reached.Goals as goal
 
 place : (c : After-wide-d) → c.wide-d.result < delegation_limit
-place c = omega (arith, c.wide-d.ensures, c.requires.within c.lowest-j.result (c.loop-left.invariant.within c.lowest-j.result c.lowest-j.ensures.1))
+place c = omega (arith, c.wide-d.ensures, c.requires c.lowest-j.result (c.loop-left.invariant.within c.lowest-j.result c.lowest-j.ensures.1))
 
 -- what was found of the member
 says : (c : After-reached) → let a = c.args in let d = get_or a.target.now c.lowest-j.result 0 in
@@ -33,7 +33,7 @@ bounds-delegations-d-in-loop-left c = place (goal.at.bounds-delegations-d-in-loo
 
 pub reached-requires : goal.reached-requires
 reached-requires c = (
-  omega (arith, c.wide.ensures, c.requires.subject_lt c.wide-d.result),
+  omega (arith, c.wide.ensures, c.args.delegations.now.subject_lt c.wide-d.result),
   omega (arith, c.wide-in-loop-left.ensures, c.args.delegations.now.ready.placed.issuer_lt c.wide-d.result),
 )
 

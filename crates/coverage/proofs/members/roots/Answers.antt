@@ -10,16 +10,16 @@ use Rattle.coverage.proofs.members.roots.Goals.{After-wide-d}
 use Rattle.coverage.proofs.members.roots.Goals as goal
 
 place : (c : After-wide-d) → c.wide-d.result < delegation_limit
-place c = omega (arith, c.wide-d.ensures, c.requires.within c.lowest-j.result (c.loop-left.invariant.left_in.within c.lowest-j.result c.lowest-j.ensures.1))
+place c = omega (arith, c.wide-d.ensures, c.requires c.lowest-j.result (c.loop-left.invariant.left_in.within c.lowest-j.result c.lowest-j.ensures.1))
 
 pub loop-left-init : goal.loop-left-init
 loop-left-init c = passing_none c.args.members _
 
-pub bounds-subject-d : goal.bounds-subject-d
-bounds-subject-d c = place (goal.at.bounds-subject-d c).After-wide-d
+pub bounds-delegations-d : goal.bounds-delegations-d
+bounds-delegations-d c = place (goal.at.bounds-delegations-d c).After-wide-d
 
 pub with-w-requires : goal.with-w-requires
-with-w-requires c = omega (arith, c.wide.ensures, c.requires.subject_lt c.wide-d.result)
+with-w-requires c = omega (arith, c.wide.ensures, c.args.delegations.now.subject_lt c.wide-d.result)
 
 pub loop-left-smaller : goal.loop-left-smaller
 loop-left-smaller c =
@@ -29,7 +29,7 @@ pub loop-left-preserved : goal.loop-left-preserved
 loop-left-preserved c =
     let a = c.args in
     let l = c.loop-left in
-    let e : c.wide.result ≡ get_or a.subject.now (get_or a.target.now c.lowest-j.result 0) 0 = c.wide.ensures ∙ ap (λ (z : ℕ). get_or a.subject.now z 0) c.wide-d.ensures in
+    let e : c.wide.result ≡ get_or a.delegations.now.subject.now (get_or a.target.now c.lowest-j.result 0) 0 = c.wide.ensures ∙ ap (λ (z : ℕ). get_or a.delegations.now.subject.now z 0) c.wide-d.ensures in
     passing_more l.left c.without-left.result c.lowest-j.result l.invariant c.lowest-j.ensures.1 c.without-left.ensures.0 c.without-left.ensures.1
     (ap (bit c.with-w.result) (sym e) ∙ c.with-w.ensures.0) (λ x n. c.with-w.ensures.1 x (λ q. n (q ∙ e)))
 

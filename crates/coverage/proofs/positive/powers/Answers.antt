@@ -8,7 +8,7 @@ pub loop-d-init : goal.loop-d-init
 loop-d-init c = filled_none _
 
 pub overflow_add-grades : goal.overflow_add-grades
-overflow_add-grades c = omega (arith, c.requires.power_le c.loop-d.d)
+overflow_add-grades c = omega (arith, c.args.facts.now.fit.power_le c.loop-d.d)
 
 pub bounds-grades-d : goal.bounds-grades-d
 bounds-grades-d c = omega (arith, c.loop-d.invariant.len)

@@ -8,7 +8,7 @@ pub loop-d-init : goal.loop-d-init
 loop-d-init c = any_none _
 
 pub with-w-requires : goal.with-w-requires
-with-w-requires c = omega (arith, c.wide.ensures, c.requires.subject_lt c.loop-d.d)
+with-w-requires c = omega (arith, c.wide.ensures, c.args.facts.now.fit.subject_lt c.loop-d.d)
 
 pub loop-d-preserved : goal.loop-d-preserved
 loop-d-preserved c = (

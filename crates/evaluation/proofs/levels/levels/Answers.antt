@@ -9,7 +9,7 @@ pub invariant_of-delegations : goal.invariant_of-delegations
 invariant_of-delegations c =
     let v = c.args.v in
     let K = c.requires.0 in
-    record { ready = ready v.facts v.grades 0 K.fit (grades_live K.fit K.grades.lives) c.index-edges.ensures K.subjects }
+    record { ready = ready v.facts v.grades 0 K.fit (grades_live K.fit K.grades.lives) c.index-edges.ensures K.subjects; subject_lt = K.fit.subject_lt }
 
 pub search-requires : goal.search-requires
 search-requires c = sound_zeros (seen c.args.v.facts c.args.v.grades 0)

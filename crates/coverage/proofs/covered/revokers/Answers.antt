@@ -1,23 +1,23 @@
--- `coverage::revokers` meets its contract. The loop's invariant: the words stand for the first j revocations.
+-- `coverage::covered::revokers` meets its contract. The loop's invariant: the words stand for the first j revocations.
 use Prim.Native.Nat.{ℕ}
 use mathlib.Core.Path.{◌≡◌, sym, subst}
 use native.Mathlib.Omega.{arith}
 use Rattle.coverage.specs.Coverage.{RevokersBy}
 use Rattle.coverage.proofs.Laws.Cover.{revokers_none, revokers_more, revokers_skip}
-use Rattle.coverage.proofs.revokers.Goals as goal
-use Rattle.coverage.proofs.revokers.Goals.{then-d-facts, else-d-facts}
+use Rattle.coverage.proofs.covered.revokers.Goals as goal
+use Rattle.coverage.proofs.covered.revokers.Goals.{then-d-facts, else-d-facts}
 
 pub loop-j-init : goal.loop-j-init
 loop-j-init c = (revokers_none c.args.facts.now.revoker c.args.facts.now.target c.args.facts.now.delegations)
 
 pub bounds-words-d : goal.bounds-words-d
-bounds-words-d c = omega (arith, c.if-d-facts.true, c.requires.delegations_le)
+bounds-words-d c = omega (arith, c.if-d-facts.true, c.args.facts.now.fit.delegations_le)
 
 pub with-requires : goal.with-requires
-with-requires c = omega (arith, c.wide.ensures, c.requires.revoker_lt c.loop-j.j)
+with-requires c = omega (arith, c.wide.ensures, c.args.facts.now.fit.revoker_lt c.loop-j.j)
 
 pub bounds-words-d-then-d-facts : goal.bounds-words-d-then-d-facts
-bounds-words-d-then-d-facts c = omega (arith, c.if-d-facts.true, c.requires.delegations_le, c.loop-j.invariant.len)
+bounds-words-d-then-d-facts c = omega (arith, c.if-d-facts.true, c.args.facts.now.fit.delegations_le, c.loop-j.invariant.len)
 
 pub loop-j-preserved : goal.loop-j-preserved
 loop-j-preserved c =
@@ -27,7 +27,7 @@ loop-j-preserved c =
       | then-d-facts w ↦
           rw w.words-is
           (revokers_more a.facts.now.revoker a.facts.now.target l.j a.facts.now.delegations l.words l.invariant c.wide-d.result w.wide.result w.with.result
-          (sym c.wide-d.ensures) (sym w.wide.ensures) (omega (arith, w.if-d-facts.true, c.requires.delegations_le)) w.with.ensures.0 w.with.ensures.1)
+          (sym c.wide-d.ensures) (sym w.wide.ensures) (omega (arith, w.if-d-facts.true, c.args.facts.now.fit.delegations_le)) w.with.ensures.0 w.with.ensures.1)
       | else-d-facts w ↦
           rw w.words-is
           (revokers_skip a.facts.now.revoker a.facts.now.target l.j a.facts.now.delegations l.words l.invariant (omega (arith, c.wide-d.ensures, w.if-d-facts.false)))

@@ -1,17 +1,17 @@
--- `coverage::coverage` meets its contract. The loop's invariant: the words of the first d delegations stand.
+-- `coverage::covered::coverage` meets its contract. The loop's invariant: the words of the first d delegations stand.
 use Prim.Native.Nat.{ℕ}
 use mathlib.Core.Path.{◌≡◌, subst}
 use native.Mathlib.Omega.{arith}
 use lib.ListN.{get_or}
 use Rattle.coverage.specs.Coverage.{Exclusion}
 use Rattle.coverage.proofs.Laws.Fill.{filled_none, filled_more, filled_to}
-use Rattle.coverage.proofs.coverage.Goals as goal
+use Rattle.coverage.proofs.covered.coverage.Goals as goal
 
 pub loop-d-init : goal.loop-d-init
 loop-d-init c = filled_none _
 
 pub exclusion-requires : goal.exclusion-requires
-exclusion-requires c = omega (arith, c.wide.ensures, c.requires.subject_lt c.loop-d.d)
+exclusion-requires c = omega (arith, c.wide.ensures, c.args.facts.now.fit.subject_lt c.loop-d.d)
 
 pub bounds-excluded-d : goal.bounds-excluded-d
 bounds-excluded-d c = omega (arith, c.loop-d.invariant.len)

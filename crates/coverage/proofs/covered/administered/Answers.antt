@@ -1,9 +1,9 @@
--- `coverage::administered` meets its contract. The loop's invariant: of the subjects that are no longer left, r has those that a key of w administers.
+-- `coverage::covered::administered` meets its contract. The loop's invariant: of the subjects that are no longer left, r has those that a key of w administers.
 use Prim.Native.Nat.{ℕ}
 use mathlib.Core.Path.{subst, sym}
 use Rattle.search.proofs.Laws.Sets.{gathered_none, gathered_all, gathered_less, gathered_skip, gathered_take}
 use Rattle.coverage.specs.Coverage.{Shared}
-use Rattle.coverage.proofs.administered.Goals as goal
+use Rattle.coverage.proofs.covered.administered.Goals as goal
 
 pub loop-left-init : goal.loop-left-init
 loop-left-init c = gathered_none _ c.args.subjects
