@@ -1,29 +1,39 @@
 -- `facts::facts` meets its contract: the columns are the tables' own.
 use mathlib.Core.Path.{refl}
 use native.Mathlib.Omega.{arith}
+use Rattle.store.specs.Store.{GoodStore}
+use Rattle.store.specs.declared.Store.{Store}
+use Rattle.coverage.specs.Fits.{Fits}
 use Rattle.answers.proofs.facts.facts.Goals as goal
 
+-- the columns of a good store fit
+fits : (s : Store) → GoodStore s
+    → Fits s.delegations.issuer s.delegations.audience s.delegations.subject s.delegations.power s.delegations.count s.revocations.issuer s.revocations.count
+fits s g = record {
+  delegations_le = g.delegations.digests.room;
+  revocations_le = g.revocations.digests.room;
+  issuer_lt = g.delegations.issuer.narrow;
+  audience_lt = g.delegations.audience.narrow;
+  subject_lt = g.delegations.subject.narrow;
+  power_le = λ d. omega (arith, g.delegations.power.narrow d);
+  revoker_lt = g.revocations.issuer.narrow;
+}
+
+pub invariant_of-result : goal.invariant_of-result
+invariant_of-result c = record { fit = fits c.args.s c.requires }
+
 pub returns : goal.returns
-returns c =
-    let g = c.requires in (
-      record {
-        delegations_le = g.delegations.digests.room;
-        revocations_le = g.revocations.digests.room;
-        issuer_lt = g.delegations.issuer.narrow;
-        audience_lt = g.delegations.audience.narrow;
-        subject_lt = g.delegations.subject.narrow;
-        power_le = λ d. omega (arith, g.delegations.power.narrow d);
-        revoker_lt = g.revocations.issuer.narrow;
-      },
-      record {
-        issuer = refl;
-        audience = refl;
-        subject = refl;
-        power = refl;
-        delegations = refl;
-        revoker = refl;
-        revocations = refl;
-        target_long = c.targets-target.ensures.0;
-        target = c.targets-target.ensures.1;
-      },
-    )
+returns c = (
+  fits c.args.s c.requires,
+  record {
+    issuer = refl;
+    audience = refl;
+    subject = refl;
+    power = refl;
+    delegations = refl;
+    revoker = refl;
+    revocations = refl;
+    target_long = c.targets-target.ensures.0;
+    target = c.targets-target.ensures.1;
+  },
+)
