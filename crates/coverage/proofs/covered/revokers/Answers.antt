@@ -1,23 +1,12 @@
 -- `coverage::covered::revokers` meets its contract. The loop's invariant: the words stand for the first j revocations.
-use Prim.Native.Nat.{ℕ}
-use mathlib.Core.Path.{◌≡◌, sym, subst}
+use mathlib.Core.Path.{sym}
 use native.Mathlib.Omega.{arith}
-use Rattle.coverage.specs.Coverage.{RevokersBy}
 use Rattle.coverage.proofs.Laws.Cover.{revokers_none, revokers_more, revokers_skip}
 use Rattle.coverage.proofs.covered.revokers.Goals as goal
 use Rattle.coverage.proofs.covered.revokers.Goals.{then-d-facts, else-d-facts}
 
 pub loop-j-init : goal.loop-j-init
 loop-j-init c = (revokers_none c.args.facts.now.revoker c.args.facts.now.target c.args.facts.now.delegations)
-
-pub bounds-words-d : goal.bounds-words-d
-bounds-words-d c = omega (arith, c.if-d-facts.true, c.args.facts.now.fit.delegations_le)
-
-pub with-requires : goal.with-requires
-with-requires c = omega (arith, c.wide.ensures, c.args.facts.now.fit.revoker_lt c.loop-j.j)
-
-pub bounds-words-d-then-d-facts : goal.bounds-words-d-then-d-facts
-bounds-words-d-then-d-facts c = omega (arith, c.if-d-facts.true, c.args.facts.now.fit.delegations_le, c.loop-j.invariant.len)
 
 pub loop-j-preserved : goal.loop-j-preserved
 loop-j-preserved c =
@@ -32,9 +21,3 @@ loop-j-preserved c =
           rw w.words-is
           (revokers_skip a.facts.now.revoker a.facts.now.target l.j a.facts.now.delegations l.words l.invariant (omega (arith, c.wide-d.ensures, w.if-d-facts.false)))
     ]
-
-pub returns : goal.returns
-returns c =
-    let a = c.args in
-    let l = c.loop-j in
-    subst (λ (z : ℕ). RevokersBy a.facts.now.revoker a.facts.now.target z a.facts.now.delegations l.words) (let q : l.j ≡ a.facts.now.revocations = omega arith in q) l.invariant

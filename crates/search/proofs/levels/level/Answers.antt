@@ -1,11 +1,9 @@
 -- `search::levels::level` meets its contract. The loop's invariant: v is the height below l.
 use borrow.Author.Rules.{rules}
-use Prim.Native.Nat.{ℕ}
-use mathlib.Core.Path.{◌≡◌, refl, ap, ◌∙◌}
+use mathlib.Core.Path.{refl}
 use native.Mathlib.Omega.{arith}
 use native.Mathlib.Numerals.{add-one}
 use Rattle.keyset.proofs.Laws.{bit_le}
-use Rattle.places.specs.Limits.{level_count}
 use Rattle.search.specs.Levels.{height_below, word}
 use Rattle.search.proofs.levels.level.Goals as goal
 
@@ -22,6 +20,3 @@ loop-l-preserved c = (
   omega (arith, c.digit-v.ensures, bit_le (word c.args.levels.now c.args.root.0 c.loop-l.l) c.args.key.0),
   rw (add-one) (omega (arith, c.digit-v.ensures, c.loop-l.invariant.1)),
 )
-
-pub returns : goal.returns
-returns c = c.loop-l.invariant.1 ∙ ap (λ (l : ℕ). height_below l c.args.levels.now c.args.root.0 c.args.key.0) (let e : c.loop-l.l ≡ level_count = omega arith in e)

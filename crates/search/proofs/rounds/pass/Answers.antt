@@ -4,15 +4,6 @@ use Rattle.search.specs.Delegations.{graph_of}
 use Rattle.search.proofs.Laws.Round.{passed_rose, passed_still, fewer_left}
 use Rattle.search.proofs.rounds.pass.Goals as goal
 
-pub widest-row-requires : goal.widest-row-requires
-widest-row-requires c = record {
-  sound = c.requires.going.sound;
-  root = c.lowest-r.ensures.0;
-}
-
-pub store-requires : goal.store-requires
-store-requires c = c.lowest-r.ensures.0
-
 pub returns-then-store : goal.returns-then-store
 returns-then-store c =
     let a = c.args in

@@ -8,7 +8,7 @@ use Rattle.keyset.specs.Word.{bit}
 use Rattle.keyset.proofs.Laws.{bit_le}
 use Rattle.search.specs.Walk.{Relaxed}
 use Rattle.search.proofs.Laws.Sets.{one_member}
-use Rattle.search.proofs.Laws.Grow.{grown_none, grown_iff, grown_set}
+use Rattle.search.proofs.Laws.Grow.{grown_iff, grown_set}
 use Rattle.search.proofs.widest.relax.Goals as goal
 
 pub returns-then-grade-ne0 : goal.returns-then-grade-ne0
@@ -31,6 +31,3 @@ returns-then-grade-ne0 c =
       ap (bit c.minus-one.result) (t.is_x ∙ sym c.wide-then-grade-ne0.ensures)
           ∙ (let z : bit c.minus-one.result c.wide-then-grade-ne0.result ≡ 1 = omega (arith, c.minus-one.ensures c.wide-then-grade-ne0.result, c.only.ensures.0, ap (bit a.exclude) c.wide-then-grade-ne0.ensures, t.free) in z),
     ))
-
-pub returns-else-grade-ne0 : goal.returns-else-grade-ne0
-returns-else-grade-ne0 c = grown_none c.args.buckets.now (Relaxed c.args.v c.args.grade c.args.audience c.args.exclude) (λ m x t. omega (arith, t.usable))

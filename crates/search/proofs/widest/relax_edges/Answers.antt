@@ -1,12 +1,11 @@
 -- `search::widest::relax_edges` meets its contract. The loop's invariant: the pair's delegations from next on are relaxed, and next is one of the pair's, or 0.
 use Prim.Native.Nat.{ℕ, ◌<◌, ◌-◌}
-use mathlib.Core.Path.{◌≡◌, sym, subst}
+use mathlib.Core.Path.{sym, subst}
 use native.Mathlib.Omega.{arith}
 use Rattle.places.specs.Limits.{delegation_limit}
 use Rattle.search.specs.Graph.{Graph}
 use Rattle.search.specs.Delegations.{graph_of}
 use Rattle.search.specs.Index.{Last}
-use Rattle.search.specs.Walk.{Grown, Led}
 use Rattle.search.proofs.Laws.Above.{one_less}
 use Rattle.search.proofs.Laws.Chain.{chaining_start, chaining_place, chaining_more, chaining_less}
 use Rattle.search.proofs.Laws.Lent.{ready_of}
@@ -34,12 +33,6 @@ bounds-grades-d c = place (goal.at.bounds-grades-d c).In-loop-next
 pub bounds-audience-d : goal.bounds-audience-d
 bounds-audience-d c = place (goal.at.bounds-audience-d c).In-loop-next
 
-pub relax-requires : goal.relax-requires
-relax-requires c =
-    let P = c.loop-next.invariant.ready.placed in
-    let d = c.loop-next.next - 1 in
-    (c.requires.2, P.grade_le d, P.audience_lt d)
-
 pub bounds-edges-d : goal.bounds-edges-d
 bounds-edges-d c = place (goal.at.bounds-edges-d c).In-loop-next
 
@@ -52,10 +45,3 @@ pub loop-next-preserved : goal.loop-next-preserved
 loop-next-preserved c =
     chaining_more (gr (goal.at.loop-next-preserved c).Start) c.args.r c.args.u c.args.v c.args.buckets.now c.loop-next.buckets c.loop-next.next (c.loop-next.next - 1)
     c.loop-next.invariant (one_less c.loop-next.next c.loop-next-test.true) _ c.wide-next-in-loop-next.result c.wide-next-in-loop-next.ensures c.relax.ensures
-
-pub returns : goal.returns
-returns c =
-    let a = c.args in
-    let l = c.loop-next in
-    let e : l.next ≡ 0 = omega arith in
-    subst (λ (z : ℕ). Grown a.buckets.now l.buckets (Led (gr (goal.at.returns c).Start) a.r a.u a.v z)) e l.invariant.grown

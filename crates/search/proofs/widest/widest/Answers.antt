@@ -50,19 +50,6 @@ loop-above-init c =
     walk_start (gr (goal.at.loop-above-init c).Start) a.r a.levels.now c.only.result c.union-active.result
     (not_in a.exclude a.r c.has.result c.has.ensures c.if-has.false) c.only.ensures.0 c.only.ensures.1
 
-pub bounds-buckets-v : goal.bounds-buckets-v
-bounds-buckets-v c = omega (arith, c.loop-above.invariant.len, c.loop-above.invariant.above_le)
-
-pub relax_edges-requires : goal.relax_edges-requires
-relax_edges-requires c =
-    let W = c.loop-above.invariant in
-    (c.requires.root, c.lowest-u.ensures.0, omega (arith, W.above_le, c.loop-above-test.true))
-
-pub relax_members-requires : goal.relax_members-requires
-relax_members-requires c =
-    let W = c.loop-above.invariant in
-    (c.lowest-u.ensures.0, omega (arith, W.above_le, c.loop-above-test.true))
-
 pub loop-above-smaller-then-w-ne0 : goal.loop-above-smaller-then-w-ne0
 loop-above-smaller-then-w-ne0 c =
     let p = next-key (goal.at.loop-above-smaller-then-w-ne0 c).After-lowest-u in
@@ -82,15 +69,6 @@ loop-above-preserved-then-w-ne0 c =
     (walk_settle (gr (goal.at.loop-above-preserved-then-w-ne0 c).Start) c.args.r c.args.levels.now c.loop-above.buckets c.union-active.result c.loop-above.settled (c.loop-above.above - 1) (here (goal.at.loop-above-preserved-then-w-ne0 c).After-minus-w)
     c.lowest-u.result c.with-settled.result _ _ c.lowest-u.ensures.0 p.0 p.1 p.2 c.with-settled.ensures.0 c.with-settled.ensures.1 c.requires.sound
     c.relax_edges.ensures c.relax_members.ensures)
-
-pub bounds-buckets-v-then-v-gt0 : goal.bounds-buckets-v-then-v-gt0
-bounds-buckets-v-then-v-gt0 c = omega (arith, c.loop-above.invariant.len, c.loop-above.invariant.above_le)
-
-pub bounds-buckets-v-then-v-gt0-2 : goal.bounds-buckets-v-then-v-gt0-2
-bounds-buckets-v-then-v-gt0-2 c = omega (arith, c.loop-above.invariant.len, c.loop-above.invariant.above_le)
-
-pub bounds-buckets-v-then-v-gt0-3 : goal.bounds-buckets-v-then-v-gt0-3
-bounds-buckets-v-then-v-gt0-3 c = omega (arith, c.loop-above.invariant.len, c.loop-above.invariant.above_le)
 
 pub loop-above-preserved-then-v-gt0 : goal.loop-above-preserved-then-v-gt0
 loop-above-preserved-then-v-gt0 c =
