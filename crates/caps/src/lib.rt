@@ -6,9 +6,8 @@
 // takes that lesser anyway, so its grade is its power's.
 #![tactic(auto)]
 
-ghost use Rattle.std.specs.Prelude.{◌≡◌, ℕ, ◌+◌, ◌<◌, ◌≤◌, min, max, get_or, length};
-ghost use Rattle.places.specs.Limits.{key_limit, delegation_limit, revocation_limit};
-ghost use Rattle.rules.specs.Rules.{Admin};
+ghost use Rattle.std.specs.Prelude.{◌≡◌, ◌+◌, ◌<◌, ◌≤◌, min, max, get_or};
+ghost use Rattle.places.specs.Limits.{delegation_limit, revocation_limit};
 ghost use Rattle.search.specs.Sets.{Word};
 ghost use Rattle.search.specs.Index.{Indexed};
 ghost use Rattle.search.specs.Delegations.{graph_of};

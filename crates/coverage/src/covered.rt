@@ -3,7 +3,7 @@
 //
 // A covered delegation is named by a revocation, so a set of covered delegations is one word over the places of revocations.
 
-ghost use Rattle.std.specs.Prelude.{ℕ, ◌<◌, get_or};
+ghost use Rattle.std.specs.Prelude.{◌<◌, get_or};
 ghost use Rattle.places.specs.Limits.{key_limit};
 ghost use Rattle.rules.specs.Rules.{Admin};
 ghost use Rattle.search.specs.Sets.{Says, Word, Among};

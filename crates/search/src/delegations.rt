@@ -13,7 +13,7 @@ pub struct Delegations<'a> {
     pub issuer: &'a [u8; DELEGATION_LIMIT],
     pub audience: &'a [u8; DELEGATION_LIMIT],
     pub subject: &'a [u8; DELEGATION_LIMIT],
-    // the level c(d) plus one, and 0 where the delegation is not usable: a byte in a fixed table, which the walk reads at each step
+    // the level c(d) plus one, and 0 where the delegation is not usable
     pub grades: &'a [u8; DELEGATION_LIMIT],
     // how many of them there are
     pub count: usize,

@@ -2,12 +2,13 @@
 //
 // A level is its rank: Relay 0, Read 1, Edit 2, Admin 3. A grade is a delegation's level c(d) plus one, and 0 where the delegation
 // is not usable. A byte of a row is a level plus one, and 0 for none. Within a search a row is a word of keys for each level.
+// Both stay bytes with a 0, and no Option: they stand in fixed tables that the walk reads at each step.
 //
 // delegations  what is lent to a search: the delegations, their index and their grades
-// edges     the delegations by subject and issuer: the adjacency that the search walks
-// widest    one pass: a root's row, with the rows found so far
-// rounds    passes over the roots whose rows can still rise
-// levels    what is read off the levels that were found
+// edges        the delegations by subject and issuer: the adjacency that the search walks
+// widest       one pass: a root's row, with the rows found so far
+// rounds       passes over the roots whose rows can still rise
+// levels       what is read off the levels that were found
 #![tactic(auto)]
 
 pub mod delegations;
@@ -16,9 +17,8 @@ pub mod levels;
 pub mod rounds;
 pub mod widest;
 
-ghost use Rattle.std.specs.Prelude.{◌≡◌, ℕ, ◌*◌, ◌≤◌, length};
+ghost use Rattle.std.specs.Prelude.{ℕ, ◌≤◌};
 ghost use Rattle.keyset.specs.Word.{bit};
-ghost use Rattle.places.specs.Limits.{key_limit, level_count};
 ghost use Rattle.search.specs.Graph.{Holds};
 ghost use Rattle.search.specs.Delegations.{graph_of};
 ghost use Rattle.search.specs.Levels.{Found};

@@ -1,7 +1,7 @@
 // Rounds of passes. A round passes the roots that are left; a root whose members' rows rose, or that was discovered, falls due in the
 // next. A root that is not due has a row to which no rule adds, so a search ends when none is due: what can still rise bounds the rounds.
 
-ghost use Rattle.std.specs.Prelude.{◌≡◌, ◌*◌, ◌<◌, length};
+ghost use Rattle.std.specs.Prelude.{◌<◌};
 ghost use Rattle.keyset.specs.Word.{size};
 ghost use Rattle.places.specs.Limits.{key_limit, level_count};
 ghost use Rattle.search.specs.Sets.{Word, Among};

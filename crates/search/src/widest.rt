@@ -1,7 +1,7 @@
 // One pass rooted at r: a walk over the levels from Admin down, in which the lowest key of a level's word is expanded next.
 // A step never raises a level, so a key's first level is its greatest, and each key is expanded at most once.
 
-ghost use Rattle.std.specs.Prelude.{◌≡◌, ◌+◌, ◌*◌, ◌<◌, ◌≤◌, length};
+ghost use Rattle.std.specs.Prelude.{◌+◌, ◌<◌, ◌≤◌};
 ghost use Rattle.places.specs.Limits.{key_limit, level_count};
 ghost use Rattle.search.specs.Delegations.{graph_of};
 ghost use Rattle.search.specs.Walk.{Grown, Relaxed, Led, Joins, Sound, Row};
