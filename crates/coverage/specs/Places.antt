@@ -1,9 +1,10 @@
 -- The rules' shape and graph at places. Assumes nothing.
 use Rattle.std.specs.Prelude.{ℕ, pred, ◌≤◌, ◌<◌, ◌≡◌, List, get_or, length}
 use Rattle.keyset.specs.Word.{bit}
-use Rattle.places.specs.Limits.{key_limit, delegation_limit, revocation_limit, level_count}
-use Rattle.rules.specs.Rules.{Admin, Shape, Graph, Stands}
+use Rattle.places.specs.Limits.{delegation_limit, level_count}
+use Rattle.rules.specs.Rules.{Shape, Graph, Stands}
 use Rattle.coverage.specs.Arrays.{Any}
+use Rattle.coverage.specs.Fits.{Fits}
 use Rattle.coverage.specs.declared.Facts.{Facts}
 
 abbrev pub shape : Facts → Shape
@@ -28,14 +29,8 @@ abbrev pub Subject : Facts → ℕ → Type 0
 Subject e k = Any e.delegations (λ d i. get_or e.subject d 0 ≡ i) k
 
 -- every place is a place, and every power a rank
-pub record Fit (e : Facts) : Type 0 where
-  pub delegations_le : e.delegations ≤ delegation_limit
-  pub revocations_le : e.revocations ≤ revocation_limit
-  pub issuer_lt : (d : ℕ) → get_or e.issuer d 0 < key_limit
-  pub audience_lt : (d : ℕ) → get_or e.audience d 0 < key_limit
-  pub subject_lt : (d : ℕ) → get_or e.subject d 0 < key_limit
-  pub power_le : (d : ℕ) → get_or e.power d 0 ≤ Admin
-  pub revoker_lt : (j : ℕ) → get_or e.revoker j 0 < key_limit
+abbrev pub Fit : Facts → Type 0
+Fit e = Fits e.issuer e.audience e.subject e.power e.delegations e.revoker e.revocations
 
 -- grades of held delegations
 pub record Grades (e : Facts) (g : List ℕ) : Type 0 where

@@ -1,37 +1,31 @@
 // Stratum 1: positive power. Every held delegation is usable at its stated power, and nobody is excluded.
 
-ghost use Rattle.std.specs.Prelude.{◌≡◌, ℕ, ◌+◌, ◌<◌, ◌≤◌, get_or};
-ghost use Rattle.places.specs.Limits.{key_limit, delegation_limit};
-ghost use Rattle.rules.specs.Rules.{Admin};
+ghost use Rattle.std.specs.Prelude.{◌≡◌, ◌+◌, get_or};
 ghost use Rattle.search.specs.Sets.{Word};
-ghost use Rattle.coverage.specs.Arrays.{Any, Filled};
+ghost use Rattle.coverage.specs.Arrays.{Filled};
+ghost use Rattle.coverage.specs.Places.{Subject};
 
+use crate::Facts;
 use places::{DELEGATION_LIMIT, wide};
 
-// The subjects of the first n delegations.
-pub fn subjects(subject: &[u8; DELEGATION_LIMIT], n: usize) -> u64
-    requires { (n ≤ delegation_limit) × ((d : ℕ) → get_or subject.now d 0 < key_limit) }
-    ensures { Word result (Any n (λ d k. get_or subject.now d 0 ≡ k)) }
+// The subjects of the held delegations.
+pub fn subjects(facts: &Facts) -> u64
+    ensures { Word result (Subject facts.now) }
 {
     let mut w = 0;
-    let mut d = 0;
-    while d < n {
-        w = keyset::with(w, wide(subject[d]));
-        d += 1;
+    for d in 0..facts.delegations {
+        w = keyset::with(w, wide(facts.subject[d]));
     }
     w
 }
 
-// The grades of the first n delegations at their stated power.
-pub fn powers(power: &[u8; DELEGATION_LIMIT], n: usize) -> [u8; DELEGATION_LIMIT]
-    requires { (n ≤ delegation_limit) × ((d : ℕ) → get_or power.now d 0 ≤ Admin) }
-    ensures { Filled n (λ d v. v ≡ get_or power.now d 0 + 1) result }
+// The grades of the held delegations at their stated power.
+pub fn powers(facts: &Facts) -> [u8; DELEGATION_LIMIT]
+    ensures { Filled facts.now.delegations (λ d v. v ≡ get_or facts.now.power d 0 + 1) result }
 {
-    let mut g = [0u8; DELEGATION_LIMIT];
-    let mut d = 0;
-    while d < n {
-        g[d] = power[d] + 1;
-        d += 1;
+    let mut grades = [0u8; DELEGATION_LIMIT];
+    for d in 0..facts.delegations {
+        grades[d] = facts.power[d] + 1;
     }
-    g
+    grades
 }

@@ -10,13 +10,14 @@ ghost use Rattle.places.specs.Limits.{key_limit};
 ghost use Rattle.rules.specs.Rules.{PositiveIs, EffectiveIs, ConveyedIs, StandingIs, Node};
 ghost use Rattle.rules.specs.Rows.{level_of};
 ghost use Rattle.search.specs.Sets.{Word};
-ghost use Rattle.coverage.specs.Places.{Fit, places};
+ghost use Rattle.coverage.specs.Places.{places};
 ghost use Rattle.evaluation.specs.Result.{Evaluated, standing_of};
 
 use coverage::Facts;
 use keyline::standing::Standing;
 use places::{ADMIN, DELEGATION_LIMIT, DelegationPlace, KEY_LIMIT, KeyPlace, LEVEL_COUNT, wide};
 use search::Levels;
+use search::delegations::Delegations;
 
 // What holds of every one (Evaluated) stands in the contracts and not in a ghost field: it has derivations in it, and those have more than one proof.
 #[derive(Clone, Copy)]
@@ -35,34 +36,29 @@ pub struct Evaluation {
 }
 
 pub fn evaluate(facts: Facts) -> Evaluation
-    requires { Fit facts }
     ensures { (result.facts ≡ facts) × Evaluated result }
 {
     let n = facts.delegations;
-    let m = facts.revocations;
-    let subjects = coverage::positive::subjects(&facts.subject, n);
+    let subjects = coverage::positive::subjects(&facts);
     let edges = search::edges::index(&facts.issuer, &facts.subject, n);
-    let all = coverage::positive::powers(&facts.power, n);
+    let all = coverage::positive::powers(&facts);
+    let delegations = Delegations {
+        issuer: &facts.issuer,
+        audience: &facts.audience,
+        subject: &facts.subject,
+        grades: &all,
+        count: n,
+        edges: &edges,
+        subjects,
+    };
     let mut found = [0u64; KEY_LIMIT * LEVEL_COUNT];
-    search::search(
-        subjects,
-        subjects,
-        0,
-        &facts.issuer,
-        &facts.audience,
-        &facts.subject,
-        &all,
-        &edges.issuers,
-        &edges.last,
-        &edges.earlier,
-        &mut found,
-    );
+    search::search(&delegations, 0, subjects, &mut found);
     let reach = search::levels::reach(&found);
-    let revokers = coverage::revokers(&facts.revoker, &facts.target, m, n);
-    let excluded = coverage::coverage(&facts.subject, n, subjects, &revokers, &found);
-    let contexts = coverage::contexts::contexts(&facts.target, m, n, &excluded);
-    let live = live_set::live_set(facts, edges, subjects, contexts, &revokers, &excluded);
-    let grades = caps::caps(facts, edges, subjects, contexts, &excluded, &live);
+    let revokers = coverage::revokers(&facts);
+    let excluded = coverage::coverage(&facts, subjects, &revokers, &found);
+    let contexts = coverage::contexts::contexts(&facts, &excluded);
+    let live = live_set::live_set(&facts, &edges, subjects, &contexts, &revokers, &excluded);
+    let grades = caps::caps(&facts, &edges, subjects, &contexts, &excluded, &live);
     Evaluation {
         facts,
         subjects,
@@ -109,20 +105,17 @@ impl Evaluation {
     {
         let facts = &self.facts;
         let edges = search::edges::index(&facts.issuer, &facts.subject, facts.delegations);
+        let delegations = Delegations {
+            issuer: &facts.issuer,
+            audience: &facts.audience,
+            subject: &facts.subject,
+            grades: &self.grades,
+            count: facts.delegations,
+            edges: &edges,
+            subjects: self.subjects,
+        };
         let mut found = [0u64; KEY_LIMIT * LEVEL_COUNT];
-        search::search(
-            keyset::only(subject.0),
-            self.subjects,
-            0,
-            &facts.issuer,
-            &facts.audience,
-            &facts.subject,
-            &self.grades,
-            &edges.issuers,
-            &edges.last,
-            &edges.earlier,
-            &mut found,
-        );
+        search::search(&delegations, 0, keyset::only(subject.0), &mut found);
         search::levels::row_of(&found, subject)
     }
 

@@ -11,11 +11,12 @@ ghost use Rattle.keyset.specs.Word.{bit};
 ghost use Rattle.places.specs.Limits.{key_limit, delegation_limit, revocation_limit};
 ghost use Rattle.rules.specs.Rules.{Admin};
 ghost use Rattle.search.specs.Sets.{Says, Word, Among};
-ghost use Rattle.search.specs.Graph.{graph, Holds};
-ghost use Rattle.search.specs.Index.{Ready, Indexed};
+ghost use Rattle.search.specs.Graph.{Holds};
+ghost use Rattle.search.specs.Index.{Indexed};
+ghost use Rattle.search.specs.Delegations.{graph_of};
 ghost use Rattle.search.specs.Levels.{Found};
 ghost use Rattle.coverage.specs.Arrays.{Filled, Below};
-ghost use Rattle.coverage.specs.Places.{Fit, Subject};
+ghost use Rattle.coverage.specs.Places.{Subject};
 ghost use Rattle.coverage.specs.Coverage.{RevokersBy, Nets};
 ghost use Rattle.coverage.specs.Contexts.{Within, Put, Grouped, In};
 ghost use Rattle.coverage.specs.Lives.{Starts};
@@ -26,6 +27,7 @@ use coverage::contexts::Groups;
 use coverage::{Facts, members};
 use places::{DELEGATION_LIMIT, KEY_LIMIT, KeyPlace, LEVEL_COUNT, REVOCATION_LIMIT, wide};
 use search::Levels;
+use search::delegations::Delegations;
 use search::edges::Edges;
 
 // The uncovered ones of the first n delegations at their stated power.
@@ -102,62 +104,36 @@ fn eligibles<'a>(
 }
 
 // One context: those of its members whose issuer stands over the subject with the grades given and the context's keys excluded.
-fn judge<'a>(
+fn judge(
     members: u64,
     exclude: u64,
-    subjects: u64,
-    target: &'a [u8; REVOCATION_LIMIT],
-    issuer: &'a [u8; DELEGATION_LIMIT],
-    audience: &'a [u8; DELEGATION_LIMIT],
-    subject: &'a [u8; DELEGATION_LIMIT],
-    grades: &'a [u8; DELEGATION_LIMIT],
-    issuers: &'a [u64; KEY_LIMIT],
-    last: &'a [u8; KEY_LIMIT * KEY_LIMIT],
-    earlier: &'a [u8; DELEGATION_LIMIT],
+    target: &[u8; REVOCATION_LIMIT],
+    delegations: &Delegations,
 ) -> u64
-    requires ready { Ready (graph issuer.now audience.now subject.now grades.now exclude) issuers.now last.now earlier.now subjects }
-    requires within { Within members target.now }
-    requires by_index { (d : ℕ) → get_or subject.now d 0 < key_limit }
-    ensures { Word result (Among members (λ j. Judged (graph issuer.now audience.now subject.now grades.now exclude) (get_or target.now j 0))) }
+    requires { Within members target.now }
+    ensures { Word result (Among members (λ j. Judged (graph_of delegations.now exclude) (get_or target.now j 0))) }
 {
     let mut found = [0u64; KEY_LIMIT * LEVEL_COUNT];
-    let from = members::roots(members, target, subject);
-    search::search(
-        from, subjects, exclude, issuer, audience, subject, grades, issuers, last, earlier,
-        &mut found,
-    );
-    members::reached(members, target, issuer, subject, &found)
+    let from = members::roots(members, target, delegations);
+    search::search(delegations, exclude, from, &mut found);
+    members::reached(members, target, delegations, &found)
 }
 
 // All contexts that have a candidate, each judged against the same grades.
-fn newly_live<'a>(
+fn newly_live(
     candidates: u64,
-    count: usize,
-    exclude: &'a [u64; REVOCATION_LIMIT],
-    contexts: &'a [u64; REVOCATION_LIMIT],
-    subjects: u64,
-    target: &'a [u8; REVOCATION_LIMIT],
-    issuer: &'a [u8; DELEGATION_LIMIT],
-    audience: &'a [u8; DELEGATION_LIMIT],
-    subject: &'a [u8; DELEGATION_LIMIT],
-    grades: &'a [u8; DELEGATION_LIMIT],
-    issuers: &'a [u64; KEY_LIMIT],
-    last: &'a [u8; KEY_LIMIT * KEY_LIMIT],
-    earlier: &'a [u8; DELEGATION_LIMIT],
+    contexts: &Groups,
+    target: &[u8; REVOCATION_LIMIT],
+    delegations: &Delegations,
 ) -> u64
-    requires ready { Ready (graph issuer.now audience.now subject.now grades.now 0) issuers.now last.now earlier.now subjects }
-    requires count_le_revocation_limit { (count ≤ revocation_limit) × Within candidates target.now }
-    requires by_index { (d : ℕ) → get_or subject.now d 0 < key_limit }
-    ensures { Word result (In count contexts.now (λ c j. (bit candidates j ≡ 1) × Judged (graph issuer.now audience.now subject.now grades.now (get_or exclude.now c 0)) (get_or target.now j 0))) }
+    requires { Within candidates target.now }
+    ensures { Word result (In contexts.now.count contexts.now.members (λ c j. (bit candidates j ≡ 1) × Judged (graph_of delegations.now (get_or contexts.now.exclude c 0)) (get_or target.now j 0))) }
 {
     let mut w = 0;
-    for c in 0..count {
-        let m = keyset::meet(contexts[c], candidates);
+    for c in 0..contexts.count {
+        let m = keyset::meet(contexts.members[c], candidates);
         if m != 0 {
-            let found = judge(
-                m, exclude[c], subjects, target, issuer, audience, subject, grades, issuers, last,
-                earlier,
-            );
+            let found = judge(m, contexts.exclude[c], target, delegations);
             w = keyset::union(w, found);
         }
     }
@@ -166,37 +142,22 @@ fn newly_live<'a>(
 
 // One round: what is reached with nobody excluded goes to base, and of those that wait the ones that join are returned.
 // Reach that avoids some keys is part of reach that avoids none, so one whose issuer is not reached there is no candidate.
-fn live_round<'a>(
+fn live_round(
     waiting: u64,
-    count: usize,
-    exclude: &'a [u64; REVOCATION_LIMIT],
-    contexts: &'a [u64; REVOCATION_LIMIT],
-    subjects: u64,
-    target: &'a [u8; REVOCATION_LIMIT],
-    issuer: &'a [u8; DELEGATION_LIMIT],
-    audience: &'a [u8; DELEGATION_LIMIT],
-    subject: &'a [u8; DELEGATION_LIMIT],
-    grades: &'a [u8; DELEGATION_LIMIT],
-    issuers: &'a [u64; KEY_LIMIT],
-    last: &'a [u8; KEY_LIMIT * KEY_LIMIT],
-    earlier: &'a [u8; DELEGATION_LIMIT],
+    contexts: &Groups,
+    target: &[u8; REVOCATION_LIMIT],
+    delegations: &Delegations,
     base: &mut Levels,
 ) -> u64
-    requires ready { Ready (graph issuer.now audience.now subject.now grades.now 0) issuers.now last.now earlier.now subjects }
-    requires count_le_revocation_limit { (count ≤ revocation_limit) × Within waiting target.now × ((j : ℕ) → bit waiting j ≡ 1 → bit subjects (get_or subject.now (get_or target.now j 0) 0) ≡ 1) }
-    requires by_index { (d : ℕ) → get_or subject.now d 0 < key_limit }
-    ensures found { Found (Holds (graph issuer.now audience.now subject.now grades.now 0)) subjects base.new }
-    ensures word { Word result (In count contexts.now (λ c j. (bit waiting j ≡ 1) × Judged (graph issuer.now audience.now subject.now grades.now (get_or exclude.now c 0)) (get_or target.now j 0))) }
+    requires within { Within waiting target.now }
+    requires about { (j : ℕ) → bit waiting j ≡ 1 → bit delegations.now.subjects (get_or delegations.now.subject.now (get_or target.now j 0) 0) ≡ 1 }
+    ensures found { Found (Holds (graph_of delegations.now 0)) delegations.now.subjects base.new }
+    ensures word { Word result (In contexts.now.count contexts.now.members (λ c j. (bit waiting j ≡ 1) × Judged (graph_of delegations.now (get_or contexts.now.exclude c 0)) (get_or target.now j 0))) }
 {
     *base = [0u64; KEY_LIMIT * LEVEL_COUNT];
-    search::search(
-        subjects, subjects, 0, issuer, audience, subject, grades, issuers, last, earlier, base,
-    );
-    let candidates = members::reached(waiting, target, issuer, subject, base);
-    newly_live(
-        candidates, count, exclude, contexts, subjects, target, issuer, audience, subject, grades,
-        issuers, last, earlier,
-    )
+    search::search(delegations, 0, delegations.subjects, base);
+    let candidates = members::reached(waiting, target, delegations, base);
+    newly_live(candidates, contexts, target, delegations)
 }
 
 // The delegations that the newly live ones name become usable at their stated power.
@@ -263,22 +224,21 @@ fn settled<'a>(
 
 // The live delegations, at the grades from which caps rise.
 pub fn live_set(
-    facts: Facts,
-    edges: Edges,
+    facts: &Facts,
+    edges: &Edges,
     subjects: u64,
-    contexts: Groups,
+    contexts: &Groups,
     revokers: &[u64; DELEGATION_LIMIT],
     excluded: &[u64; DELEGATION_LIMIT],
 ) -> [u8; DELEGATION_LIMIT]
-    requires fit { Fit facts × Word subjects (Subject facts) }
-    requires indexed { Indexed facts.issuer facts.subject facts.delegations edges.issuers edges.last edges.earlier }
-    requires revokers_by { RevokersBy facts.revoker facts.target facts.revocations facts.delegations revokers.now × Nets facts excluded.now }
-    requires grouped { Grouped facts.target excluded.now facts.revocations facts.delegations contexts.count contexts.exclude contexts.members }
-    ensures { Starts facts result }
+    requires subjects { Word subjects (Subject facts.now) }
+    requires indexed { Indexed facts.now.issuer facts.now.subject facts.now.delegations edges.now.issuers edges.now.last edges.now.earlier }
+    requires revokers_by { RevokersBy facts.now.revoker facts.now.target facts.now.revocations facts.now.delegations revokers.now × Nets facts.now excluded.now }
+    requires grouped { Grouped facts.now.target excluded.now facts.now.revocations facts.now.delegations contexts.now.count contexts.now.exclude contexts.now.members }
+    ensures { Starts facts.now result }
 {
     let n = facts.delegations;
     let m = facts.revocations;
-    let count = contexts.count;
     let mut grades = plain(&facts.power, excluded, n);
     let mut waiting = eligibles(
         &facts.target,
@@ -292,22 +252,16 @@ pub fn live_set(
     );
     let mut base = [0u64; KEY_LIMIT * LEVEL_COUNT];
     loop {
-        let newly = live_round(
-            waiting,
-            count,
-            &contexts.exclude,
-            &contexts.members,
+        let delegations = Delegations {
+            issuer: &facts.issuer,
+            audience: &facts.audience,
+            subject: &facts.subject,
+            grades: &grades,
+            count: n,
+            edges,
             subjects,
-            &facts.target,
-            &facts.issuer,
-            &facts.audience,
-            &facts.subject,
-            &grades,
-            &edges.issuers,
-            &edges.last,
-            &edges.earlier,
-            &mut base,
-        );
+        };
+        let newly = live_round(waiting, contexts, &facts.target, &delegations, &mut base);
         if newly == 0 {
             return settled(&facts.issuer, &facts.subject, n, excluded, &grades, &base);
         }

@@ -15,11 +15,10 @@ pub record Indexed (issuer subject : List ℕ) (n : ℕ) (issuers last earlier :
   pub start : (r u : ℕ) → r < key_limit → u < key_limit → Last issuer subject n r u (get_or last (r * key_limit + u) 0)
   pub before : (d : ℕ) → d < n → Last issuer subject d (get_or subject d 0) (get_or issuer d 0) (get_or earlier d 0)
 
--- What a search may take for granted: places are places, the index is that of the delegations, each usable one is indexed, and its subject
--- is among the subjects.
-pub record Ready (G : Graph) (issuers last earlier : List ℕ) (subjects : ℕ) : Type 0 where
+-- What a search may take for granted: places are places, the index is that of the first count delegations, each usable one is indexed, and its
+-- subject is among the subjects.
+pub record Ready (G : Graph) (count : ℕ) (issuers last earlier : List ℕ) (subjects : ℕ) : Type 0 where
   pub placed : Placed G
-  pub count : ℕ
   pub count_le : count ≤ delegation_limit
   pub indexed : Indexed G.issuer G.subject count issuers last earlier
   pub held : (d : ℕ) → 0 < get_or G.grades d 0 → d < count

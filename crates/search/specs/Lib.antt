@@ -5,3 +5,4 @@ pub mod Index
 pub mod Levels
 pub mod Walk
 pub mod Rounds
+pub mod Delegations

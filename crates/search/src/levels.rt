@@ -32,10 +32,8 @@ pub fn reach(levels: &Levels) -> [u64; KEY_LIMIT]
     ensures { (r : ℕ) → r < key_limit → get_or result r 0 ≡ word levels.now r 0 }
 {
     let mut words = [0u64; KEY_LIMIT];
-    let mut r = 0;
-    while r < KEY_LIMIT {
+    for r in 0..KEY_LIMIT {
         words[r] = holders(levels, KeyPlace(r), RELAY);
-        r += 1;
     }
     words
 }
@@ -48,10 +46,8 @@ pub fn level(levels: &Levels, root: KeyPlace, key: KeyPlace) -> u8
     let r = root.0;
     let x = key.0;
     let mut v: u8 = 0;
-    let mut l = 0;
-    while l < LEVEL_COUNT {
+    for l in 0..LEVEL_COUNT {
         v += digit(levels[r * LEVEL_COUNT + l], x);
-        l += 1;
     }
     v
 }
@@ -69,10 +65,8 @@ pub fn row_of(levels: &Levels, root: KeyPlace) -> [u8; KEY_LIMIT]
     ensures { (x : ℕ) → x < key_limit → get_or result x 0 ≡ height levels.now root.0 x }
 {
     let mut row = [0u8; KEY_LIMIT];
-    let mut x = 0;
-    while x < KEY_LIMIT {
+    for x in 0..KEY_LIMIT {
         row[x] = level(levels, root, KeyPlace(x));
-        x += 1;
     }
     row
 }

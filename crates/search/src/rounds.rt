@@ -1,32 +1,30 @@
 // Rounds of passes. A round passes the roots that are left; a root whose members' rows rose, or that was discovered, falls due in the
 // next. A root that is not due has a row to which no rule adds, so a search ends when none is due: what can still rise bounds the rounds.
 
-ghost use Rattle.std.specs.Prelude.{◌≡◌, ◌*◌, ◌<◌, length};
+ghost use Rattle.std.specs.Prelude.{◌<◌};
 ghost use Rattle.keyset.specs.Word.{size};
 ghost use Rattle.places.specs.Limits.{key_limit, level_count};
 ghost use Rattle.search.specs.Sets.{Word, Among};
-ghost use Rattle.search.specs.Graph.{graph};
-ghost use Rattle.search.specs.Index.{Ready};
+ghost use Rattle.search.specs.Delegations.{graph_of};
 ghost use Rattle.search.specs.Levels.{On};
 ghost use Rattle.search.specs.Rounds.{Stored, Going, Passed};
 
 use crate::Levels;
+use crate::delegations::Delegations;
 use crate::widest::widest;
-use places::{DELEGATION_LIMIT, KEY_LIMIT, LEVEL_COUNT};
+use places::LEVEL_COUNT;
 
 // Puts a pass's words at r's places, and says whether one of them has a key more.
 fn store(r: usize, row: &[u64; LEVEL_COUNT], levels: &mut Levels) -> bool
-    requires { (r < key_limit) × (length levels.old ≡ key_limit * level_count) }
+    requires { r < key_limit }
     ensures { Stored r level_count row.now levels.old levels.new result }
 {
     let mut rose = false;
-    let mut l = 0;
-    while l < LEVEL_COUNT {
+    for l in 0..LEVEL_COUNT {
         let at = r * LEVEL_COUNT + l;
         let fresh = keyset::minus(row[l], levels[at]);
-        rose = rose | (fresh != 0);
+        rose |= fresh != 0;
         levels[at] = row[l];
-        l += 1;
     }
     rose
 }
@@ -57,32 +55,17 @@ pub struct Turn {
 }
 
 // One root's pass within a round.
-fn pass<'a>(
-    s: Turn,
-    subjects: u64,
-    exclude: u64,
-    issuer: &'a [u8; DELEGATION_LIMIT],
-    audience: &'a [u8; DELEGATION_LIMIT],
-    subject: &'a [u8; DELEGATION_LIMIT],
-    grades: &'a [u8; DELEGATION_LIMIT],
-    issuers: &'a [u64; KEY_LIMIT],
-    last: &'a [u8; KEY_LIMIT * KEY_LIMIT],
-    earlier: &'a [u8; DELEGATION_LIMIT],
-    levels: &mut Levels,
-) -> Turn
-    requires ready { Ready (graph issuer.now audience.now subject.now grades.now exclude) issuers.now last.now earlier.now subjects }
-    requires going { Going (graph issuer.now audience.now subject.now grades.now exclude) subjects s.known s.left s.due levels.old }
+fn pass(delegations: &Delegations, exclude: u64, s: Turn, levels: &mut Levels) -> Turn
+    requires going { Going (graph_of delegations.now exclude) delegations.now.subjects s.known s.left s.due levels.old }
     requires left_nonzero { 0 < s.left }
-    ensures passed { Passed (graph issuer.now audience.now subject.now grades.now exclude) subjects s.known s.due levels.old result.known result.left result.due levels.new }
+    ensures passed { Passed (graph_of delegations.now exclude) delegations.now.subjects s.known s.due levels.old result.known result.left result.due levels.new }
     ensures left_bound { size key_limit result.left < size key_limit s.left }
 {
     let known = s.known;
     let left = s.left;
     let r = keyset::lowest(left);
-    let row = widest(
-        r, subjects, exclude, issuer, audience, subject, grades, issuers, last, earlier, levels,
-    );
-    let found = keyset::meet(row[0], subjects);
+    let row = widest(delegations, exclude, r, levels);
+    let found = keyset::meet(row[0], delegations.subjects);
     let fresh = keyset::minus(found, known);
     let due = keyset::union(s.due, fresh);
     let rest = keyset::without(left, r);
@@ -103,23 +86,15 @@ fn pass<'a>(
 }
 
 // A pass for each root that is left.
-pub fn round<'a>(
+pub fn round(
+    delegations: &Delegations,
+    exclude: u64,
     known: u64,
     left: u64,
-    subjects: u64,
-    exclude: u64,
-    issuer: &'a [u8; DELEGATION_LIMIT],
-    audience: &'a [u8; DELEGATION_LIMIT],
-    subject: &'a [u8; DELEGATION_LIMIT],
-    grades: &'a [u8; DELEGATION_LIMIT],
-    issuers: &'a [u64; KEY_LIMIT],
-    last: &'a [u8; KEY_LIMIT * KEY_LIMIT],
-    earlier: &'a [u8; DELEGATION_LIMIT],
     levels: &mut Levels,
 ) -> Turn
-    requires ready { Ready (graph issuer.now audience.now subject.now grades.now exclude) issuers.now last.now earlier.now subjects }
-    requires going { Going (graph issuer.now audience.now subject.now grades.now exclude) subjects known left 0 levels.old }
-    ensures { Passed (graph issuer.now audience.now subject.now grades.now exclude) subjects known 0 levels.old result.known 0 result.due levels.new }
+    requires { Going (graph_of delegations.now exclude) delegations.now.subjects known left 0 levels.old }
+    ensures { Passed (graph_of delegations.now exclude) delegations.now.subjects known 0 levels.old result.known 0 result.due levels.new }
 {
     let mut s = Turn {
         known,
@@ -127,9 +102,7 @@ pub fn round<'a>(
         due: 0,
     };
     while s.left != 0 {
-        s = pass(
-            s, subjects, exclude, issuer, audience, subject, grades, issuers, last, earlier, levels,
-        );
+        s = pass(delegations, exclude, s, levels);
     }
     s
 }

@@ -9,39 +9,48 @@ use Rattle.caps.proofs.caps.Goals.{After-living-alive}
 use Rattle.caps.proofs.caps.Goals as goal
 
 -- those that live
-alive-is : (c : After-living-alive) → Living c.args.facts c.args.excluded.now c.living-alive.result
+alive-is : (c : After-living-alive) → Living c.args.facts.now c.args.excluded.now c.living-alive.result
 alive-is c = living_is c.requires.starts.lives c.living-alive.ensures
 
-pub cap_round-next-requires-clause-ready : goal.cap_round-next-requires-clause-ready
-cap_round-next-requires-clause-ready c =
+pub invariant_of-delegations : goal.invariant_of-delegations
+invariant_of-delegations c =
+    let f = c.args.facts.now in
     let p = c.requires in
-    let l = c.loop-facts in
-    ready c.args.facts l.grades 0 p.fit.0 (grades_live p.fit.0 l.invariant.lives) p.indexed p.fit.1
+    let l = c.loop-next in record {
+      ready = ready f l.grades 0 f.fit (grades_live f.fit l.invariant.lives) p.indexed p.subjects;
+      subject_lt = f.fit.subject_lt;
+    }
 
-pub loop-facts-smaller : goal.loop-facts-smaller
-loop-facts-smaller c =
-    let a = c.args in
+pub loop-next-smaller : goal.loop-next-smaller
+loop-next-smaller c =
+    let f = c.args.facts.now in
+    let s = c.args.contexts.now in
     let p = c.requires in
-    let l = c.loop-facts in
-    let up = rises a.facts a.excluded.now p.fit.0 p.nets.0 a.contexts.count a.contexts.exclude a.contexts.members p.nets.1 c.living-alive.result (alive-is (goal.at.loop-facts-smaller c).After-living-alive)
+    let l = c.loop-next in
+    let alive = alive-is (goal.at.loop-next-smaller c).After-living-alive in
+    let up = rises f c.args.excluded.now f.fit p.nets.0 s.count s.exclude s.members p.nets.1 c.living-alive.result alive
     l.grades l.invariant c.cap_round-next.result c.cap_round-next.ensures in
-    let next = rising_next a.facts a.excluded.now p.fit.0 p.nets.0 a.contexts.count a.contexts.exclude a.contexts.members p.nets.1 c.living-alive.result (alive-is (goal.at.loop-facts-smaller c).After-living-alive)
+    let next = rising_next f c.args.excluded.now f.fit p.nets.0 s.count s.exclude s.members p.nets.1 c.living-alive.result alive
     l.grades l.invariant c.cap_round-next.result c.cap_round-next.ensures in
-    room_less l.grades c.cap_round-next.result l.invariant.lives.len next.lives.len up (grades_live p.fit.0 next.lives).le
+    room_less l.grades c.cap_round-next.result l.invariant.lives.len next.lives.len up (grades_live f.fit next.lives).le
     (other_text c.cap_round-next.result l.grades (sym c.if-eq.false ∙ c.eq.ensures))
 
-pub loop-facts-preserved : goal.loop-facts-preserved
-loop-facts-preserved c =
-    let a = c.args in
+pub loop-next-preserved : goal.loop-next-preserved
+loop-next-preserved c =
+    let f = c.args.facts.now in
+    let s = c.args.contexts.now in
     let p = c.requires in
-    let l = c.loop-facts in
-    rising_next a.facts a.excluded.now p.fit.0 p.nets.0 a.contexts.count a.contexts.exclude a.contexts.members p.nets.1 c.living-alive.result (alive-is (goal.at.loop-facts-preserved c).After-living-alive)
+    let l = c.loop-next in
+    rising_next f c.args.excluded.now f.fit p.nets.0 s.count s.exclude s.members p.nets.1 c.living-alive.result
+    (alive-is (goal.at.loop-next-preserved c).After-living-alive)
     l.grades l.invariant c.cap_round-next.result c.cap_round-next.ensures
 
 pub returns-then-eq : goal.returns-then-eq
 returns-then-eq c =
-    let a = c.args in
+    let f = c.args.facts.now in
+    let s = c.args.contexts.now in
     let p = c.requires in
-    let l = c.loop-facts in
-    capped a.facts a.excluded.now p.fit.0 p.nets.0 a.contexts.count a.contexts.exclude a.contexts.members p.nets.1 c.living-alive.result (alive-is (goal.at.returns-then-eq c).After-living-alive)
+    let l = c.loop-next in
+    capped f c.args.excluded.now f.fit p.nets.0 s.count s.exclude s.members p.nets.1 c.living-alive.result
+    (alive-is (goal.at.returns-then-eq c).After-living-alive)
     l.grades l.invariant c.cap_round-next.result c.cap_round-next.ensures (same_text c.cap_round-next.result l.grades (sym c.if-eq.true ∙ c.eq.ensures))

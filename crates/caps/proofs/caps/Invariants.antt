@@ -4,8 +4,8 @@ use Rattle.caps.proofs.Laws.Rise.{room}
 use Rattle.caps.proofs.Laws.Caps.{Rising}
 use Rattle.caps.proofs.caps.Given as goal
 
-abbrev pub invariant-loop-facts : goal.invariant-loop-facts
-invariant-loop-facts l = Rising l.facts l.grades
+abbrev pub invariant-loop-next : goal.invariant-loop-next
+invariant-loop-next l = Rising l.facts l.grades
 
-abbrev pub decreases-loop-facts : goal.decreases-loop-facts
-decreases-loop-facts l = room l.grades
+abbrev pub decreases-loop-next : goal.decreases-loop-next
+decreases-loop-next l = room l.grades

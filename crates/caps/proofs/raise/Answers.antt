@@ -14,18 +14,20 @@ loop-left-smaller c =
 
 pub loop-left-preserved : goal.loop-left-preserved
 loop-left-preserved c =
-    let a = c.args in
+    let s = c.args.delegations.now in
+    let found = c.args.found.now in
+    let power = c.args.facts.now.power in
     let l = c.loop-left in
     let d = c.wide-d.result in
-    let level : c.level-level.result ≡ height a.found.now (get_or a.subject.now d 0) (get_or a.issuer.now d 0) =
-    c.level-level.ensures ∙ ap (λ (z : ℕ). height a.found.now z c.wide-in-loop-left.result) c.wide.ensures
-    ∙ ap (λ (z : ℕ). height a.found.now (get_or a.subject.now d 0) z) c.wide-in-loop-left.ensures in
-    let v : c.max.result ≡ lift a.issuer.now a.subject.now a.power.now a.grades.now a.found.now d =
-    c.max.ensures ∙ ap (max (get_or a.grades.now d 0)) (c.min.ensures ∙ ap (min (get_or a.power.now d 0 + 1)) level) in
-    let named = c.requires.within.0 c.lowest-j.result (l.invariant.1.left_in.within c.lowest-j.result c.lowest-j.ensures.1) in
+    let level : c.level-level.result ≡ height found (get_or s.subject.now d 0) (get_or s.issuer.now d 0) =
+    c.level-level.ensures ∙ ap (λ (z : ℕ). height found z c.wide-in-loop-left.result) c.wide.ensures
+    ∙ ap (λ (z : ℕ). height found (get_or s.subject.now d 0) z) c.wide-in-loop-left.ensures in
+    let v : c.max.result ≡ lift s.issuer.now s.subject.now power s.grades.now found d =
+    c.max.ensures ∙ ap (max (get_or s.grades.now d 0)) (c.min.ensures ∙ ap (min (get_or power d 0 + 1)) level) in
+    let named = c.requires c.lowest-j.result (l.invariant.1.left_in.within c.lowest-j.result c.lowest-j.ensures.1) in
     let P = putting_more l.left c.without-left.result c.lowest-j.result l.invariant.1 c.lowest-j.ensures.1 c.without-left.ensures.0 c.without-left.ensures.1
     d _ (sym c.wide-d.ensures) (omega (arith, c.wide-d.ensures, named, l.invariant.0)) v in
-    (P.same ∙ c.requires.within.1, P)
+    (omega (arith, P.same), P)
 
 pub returns : goal.returns
 returns c = putting_all c.loop-left-test.false c.loop-left.invariant.1

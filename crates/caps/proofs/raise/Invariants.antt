@@ -15,7 +15,7 @@ lift issuer subject power grades found d = max (get_or grades d 0) (min (get_or 
 
 abbrev pub invariant-loop-left : goal.invariant-loop-left
 invariant-loop-left l =
-    (length l.next ≡ delegation_limit) × Putting l.members l.left l.target (lift l.issuer l.subject l.power l.grades l.found) l.initial.next l.next
+    (length l.next ≡ delegation_limit) × Putting l.members l.left l.facts.target (lift l.delegations.issuer.now l.delegations.subject.now l.facts.power l.delegations.grades.now l.found) l.initial.next l.next
 
 abbrev pub decreases-loop-left : goal.decreases-loop-left
 decreases-loop-left l = size revocation_limit l.left

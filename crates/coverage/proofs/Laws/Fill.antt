@@ -78,9 +78,6 @@ module _ {T : ℕ → ℕ → Type 0} {w : ℕ} (d : ℕ) (f : Word w (Any d T))
       old j q (yes e) = absurd (n j (subst (λ (y : ℕ). T y j) e q.is))
       old j q (no m) = record { place = q.place; lt = omega (arith, m, q.lt); is = q.is }
 
-pub any_to : {T : ℕ → ℕ → Type 0} {w m n : ℕ} → m ≡ n → Word w (Any m T) → Word w (Any n T)
-any_to {T} {w} e f = subst (λ (z : ℕ). Word w (Any z T)) e f
-
 pub below_none : (P : ℕ → Type 0) → Word 0 (Below 0 P)
 below_none P = record { has = λ k a. absurd (let h = a.lt in omega arith); only = λ k p. absurd (let h = bit_none k in omega arith) }
 

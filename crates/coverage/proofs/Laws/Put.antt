@@ -57,24 +57,6 @@ passing_all {members} {left} {f} {w} z P = record {
   only = P.only;
 }
 
-module _ {members : ℕ} {f : ℕ → ℕ} {w : ℕ} (left left' j : ℕ) (P : Passing members left f w) (first : bit left j ≡ 1) (out : bit left' j ≡ 0)
-    (others : (k : ℕ) → (k ≡ j → ⊥) → bit left' k ≡ bit left k) where
-  pub passing_more : {w' : ℕ} → bit w' (f j) ≡ 1 → ((x : ℕ) → (x ≡ f j → ⊥) → bit w' x ≡ bit w x) → Passing members left' f w'
-  passing_more {w'} b o = record {
-    left_in = left_more members left left' j first out others P.left_in;
-    has = λ k t. ⊎_elim (λ e. ap (λ (y : ℕ). bit w' (f y)) e ∙ b) (λ u. kept (f k) (P.has k u) (ℕ_discrete (f k) (f j)))
-        (taken_split members left left' j first out others k t (ℕ_discrete k j));
-    only = λ x p. only' x p (ℕ_discrete x (f j));
-  }
-    where
-      kept : (x : ℕ) → bit w x ≡ 1 → Dec (x ≡ f j) → bit w' x ≡ 1
-      kept x p (yes e) = ap (bit w') e ∙ b
-      kept x p (no n) = o x n ∙ p
-
-      only' : (x : ℕ) → bit w' x ≡ 1 → Dec (x ≡ f j) → Through members f x
-      only' x p (yes e) = record { place = j; member = P.left_in.within j first; is = sym e }
-      only' x p (no n) = P.only x (sym (o x n) ∙ p)
-
 -- ---- an array of theirs
 
 pub record Putting (members left : ℕ) (target : List ℕ) (f : ℕ → ℕ) (old new : List ℕ) : Type 0 where

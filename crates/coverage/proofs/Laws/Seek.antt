@@ -53,10 +53,9 @@ module _ (e : Facts) (g : List ℕ) (n : ℕ) where
   found_over F = record { answer = λ r x k. answer_carry under_over under_holds (F.answer r x k); nested = F.nested }
 
   pub ready : {issuers last earlier : List ℕ} {subjects : ℕ} → Fit e → Grades e g → Indexed e.issuer e.subject e.delegations issuers last earlier
-      → Word subjects (Subject e) → Ready (seen e g n) issuers last earlier subjects
+      → Word subjects (Subject e) → Ready (seen e g n) e.delegations issuers last earlier subjects
   ready f h I W = record {
     placed = record { issuer_lt = f.issuer_lt; audience_lt = f.audience_lt; grade_le = h.le };
-    count = e.delegations;
     count_le = f.delegations_le;
     indexed = I;
     held = h.held;
@@ -64,18 +63,6 @@ module _ (e : Facts) (g : List ℕ) (n : ℕ) where
   }
 
 -- ---- searches in general
-
--- the same whoever is excluded
-pub ready_any : {i a s g issuers last earlier : List ℕ} {subjects n : ℕ} (m : ℕ) → Ready (graph i a s g n) issuers last earlier subjects
-    → Ready (graph i a s g m) issuers last earlier subjects
-ready_any m R = record {
-  placed = record { issuer_lt = R.placed.issuer_lt; audience_lt = R.placed.audience_lt; grade_le = R.placed.grade_le };
-  count = R.count;
-  count_le = R.count_le;
-  indexed = R.indexed;
-  held = R.held;
-  covers = R.covers;
-}
 
 up : (a b : ℕ) → a ≤ b → b ≤ 1 → a ≡ 1 → b ≡ 1
 up a b p q e = omega arith

@@ -17,7 +17,7 @@ positive : (c : After-search) → Found (Positive (places c.args.facts)) c.subje
 positive c =
     let g = c.powers-all in
     let e = c.args.facts in
-    found_positive e c.requires g.result g.ensures (found_over e g.result 0 (found_less c.subjects-subjects.result c.search.result c.search.ensures.1 c.search.ensures.0))
+    found_positive e e.fit g.result g.ensures (found_over e g.result 0 (found_less c.subjects-subjects.result c.search.result c.search.ensures.1 c.search.ensures.0))
 
 -- the words are N(d)
 nets : (c : After-coverage-excluded) → Nets c.args.facts c.coverage-excluded.result
@@ -25,10 +25,10 @@ nets c =
     let s = c.subjects-subjects in
     filled_map (λ d w h X. net_is c.args.facts s.result (c.search.new.levels) s.ensures (let g = c.powers-all in
     let e = c.args.facts in
-    found_positive e c.requires g.result g.ensures (found_over e g.result 0 (found_less c.subjects-subjects.result c.search.result c.search.ensures.1 c.search.ensures.0))) d h _ (c.revokers-revokers.ensures.is d h) w X) c.coverage-excluded.ensures
+    found_positive e e.fit g.result g.ensures (found_over e g.result 0 (found_less c.subjects-subjects.result c.search.result c.search.ensures.1 c.search.ensures.0))) d h _ (c.revokers-revokers.ensures.is d h) w X) c.coverage-excluded.ensures
 
-pub search-requires-clause-sound : goal.search-requires-clause-sound
-search-requires-clause-sound c = sound_zeros (seen c.args.facts c.powers-all.result 0)
+pub search-requires : goal.search-requires
+search-requires c = sound_zeros (seen c.args.facts c.powers-all.result 0)
 
 pub live_set-live-requires-clause-revokers_by : goal.live_set-live-requires-clause-revokers_by
 live_set-live-requires-clause-revokers_by c = (c.revokers-revokers.ensures, nets (goal.at.live_set-live-requires-clause-revokers_by c).After-coverage-excluded)
@@ -40,7 +40,7 @@ pub returns : goal.returns
 returns c = (
   refl,
   record {
-    fit = c.requires;
+    fit = c.args.facts.fit;
     subjects = c.subjects-subjects.ensures;
     found = positive (goal.at.returns c).After-search;
     reach = c.reach-reach.ensures;

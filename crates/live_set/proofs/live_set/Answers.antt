@@ -5,32 +5,35 @@ use Rattle.coverage.proofs.Laws.Seek.{found_over}
 use Rattle.live_set.proofs.Laws.Live.{usables_start, usables_next, waiting_less, starts}
 use Rattle.live_set.proofs.live_set.Goals as goal
 
-pub loop-edges-init : goal.loop-edges-init
-loop-edges-init c =
+pub loop-grades-init : goal.loop-grades-init
+loop-grades-init c =
     let a = c.args in
     let p = c.requires in
-    usables_start a.facts a.excluded.now p.fit.0 p.revokers_by.1 p.revokers_by.0 c.plain-grades.ensures c.eligibles-waiting.ensures
+    usables_start a.facts.now a.excluded.now a.facts.now.fit p.revokers_by.1 p.revokers_by.0 c.plain-grades.ensures c.eligibles-waiting.ensures
 
 pub returns-then-newly-eq0 : goal.returns-then-newly-eq0
 returns-then-newly-eq0 c =
     let a = c.args in
+    let s = a.contexts.now in
     let p = c.requires in
-    let l = c.loop-edges in
-    starts a.facts a.excluded.now p.fit.0 p.revokers_by.1 l.grades l.waiting l.invariant a.contexts.count a.contexts.exclude a.contexts.members p.grouped
-    c.live_round-newly.result c.live_round-newly.ensures.word c.if-newly-eq0.true p.fit.1 (found_over a.facts l.grades 0 c.live_round-newly.ensures.found) c.settled.ensures
+    let l = c.loop-grades in
+    starts a.facts.now a.excluded.now a.facts.now.fit p.revokers_by.1 l.grades l.waiting l.invariant s.count s.exclude s.members p.grouped
+    c.live_round-newly.result c.live_round-newly.ensures.word c.if-newly-eq0.true p.subjects (found_over a.facts.now l.grades 0 c.live_round-newly.ensures.found) c.settled.ensures
 
-pub loop-edges-smaller : goal.loop-edges-smaller
-loop-edges-smaller c =
+pub loop-grades-smaller : goal.loop-grades-smaller
+loop-grades-smaller c =
     let a = c.args in
+    let s = a.contexts.now in
     let p = c.requires in
-    let l = c.loop-edges in
-    waiting_less a.facts a.excluded.now p.fit.0 p.revokers_by.1 l.grades l.waiting l.invariant a.contexts.count a.contexts.exclude a.contexts.members p.grouped
+    let l = c.loop-grades in
+    waiting_less a.facts.now a.excluded.now a.facts.now.fit p.revokers_by.1 l.grades l.waiting l.invariant s.count s.exclude s.members p.grouped
     c.live_round-newly.result c.live_round-newly.ensures.word _ c.join.ensures c.minus-waiting.result c.minus-waiting.ensures (omega (arith, c.live_round-newly.type_inv)) c.if-newly-eq0.false
 
-pub loop-edges-preserved : goal.loop-edges-preserved
-loop-edges-preserved c =
+pub loop-grades-preserved : goal.loop-grades-preserved
+loop-grades-preserved c =
     let a = c.args in
+    let s = a.contexts.now in
     let p = c.requires in
-    let l = c.loop-edges in
-    usables_next a.facts a.excluded.now p.fit.0 p.revokers_by.1 l.grades l.waiting l.invariant a.contexts.count a.contexts.exclude a.contexts.members p.grouped
+    let l = c.loop-grades in
+    usables_next a.facts.now a.excluded.now a.facts.now.fit p.revokers_by.1 l.grades l.waiting l.invariant s.count s.exclude s.members p.grouped
     c.live_round-newly.result c.live_round-newly.ensures.word _ c.join.ensures c.minus-waiting.result c.minus-waiting.ensures

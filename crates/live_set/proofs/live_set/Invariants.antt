@@ -5,8 +5,8 @@ use Rattle.places.specs.Limits.{revocation_limit}
 use Rattle.live_set.proofs.Laws.Live.{Usables}
 use Rattle.live_set.proofs.live_set.Given as goal
 
-abbrev pub invariant-loop-edges : goal.invariant-loop-edges
-invariant-loop-edges l = Usables l.facts l.excluded l.grades l.waiting
+abbrev pub invariant-loop-grades : goal.invariant-loop-grades
+invariant-loop-grades l = Usables l.facts l.excluded l.grades l.waiting
 
-abbrev pub decreases-loop-edges : goal.decreases-loop-edges
-decreases-loop-edges l = size revocation_limit l.waiting
+abbrev pub decreases-loop-grades : goal.decreases-loop-grades
+decreases-loop-grades l = size revocation_limit l.waiting

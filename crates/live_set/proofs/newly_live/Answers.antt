@@ -9,16 +9,18 @@ use Rattle.live_set.proofs.newly_live.Goals as goal
 pub loop-c-init : goal.loop-c-init
 loop-c-init c = in_none _ _ _
 
-pub judge-found-requires-clause-within : goal.judge-found-requires-clause-within
-judge-found-requires-clause-within c = λ j b. c.requires.count_le_revocation_limit.1 j (omega (arith, c.meet-m.ensures j, bit_le c.args.candidates j))
+pub judge-found-requires : goal.judge-found-requires
+judge-found-requires c = λ j b. c.requires j (omega (arith, c.meet-m.ensures j, bit_le c.args.candidates j))
 
 pub loop-c-preserved : goal.loop-c-preserved
 loop-c-preserved c =
     let a = c.args in
     let l = c.loop-c in
-    let J = Judges a.exclude.now a.target.now a.issuer.now a.audience.now a.subject.now a.grades.now in
+    let J = Judges a.contexts.now.exclude a.target.now a.delegations.now in
     elim c.if-m-ne0.branch [
-      | then-m-ne0 w ↦ rw w.w-is
-          (in_more a.contexts.now a.candidates J l.c l.w c.meet-m.result l.invariant c.meet-m.ensures w.judge-found.result w.union-w.result w.judge-found.ensures w.union-w.ensures)
-      | else-m-ne0 w ↦ rw w.w-is (in_skip a.contexts.now a.candidates J l.c l.w c.meet-m.result l.invariant c.meet-m.ensures w.if-m-ne0.false)
+      | then-m-ne0 w ↦
+          rw w.w-is
+          (in_more a.contexts.now.members a.candidates J l.c l.w c.meet-m.result l.invariant c.meet-m.ensures w.judge-found.result w.union-w.result
+          w.judge-found.ensures w.union-w.ensures)
+      | else-m-ne0 w ↦ rw w.w-is (in_skip a.contexts.now.members a.candidates J l.c l.w c.meet-m.result l.invariant c.meet-m.ensures w.if-m-ne0.false)
     ]

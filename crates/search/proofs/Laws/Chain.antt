@@ -132,15 +132,15 @@ last_le zero L = omega arith
 last_le (suc d) L = omega (arith, (L.found d refl).0)
 
 -- Where the walk along u's delegations about r stands: those from next on are relaxed, and next is one more than one of them, or 0.
-pub record Chaining (G : Graph) (r u v : ℕ) (issuers last earlier : List ℕ) (subjects : ℕ) (b₀ b : List ℕ) (next : ℕ) : Type 0 where
-  pub ready : Ready G issuers last earlier subjects
+pub record Chaining (G : Graph) (r u v count : ℕ) (issuers last earlier : List ℕ) (subjects : ℕ) (b₀ b : List ℕ) (next : ℕ) : Type 0 where
+  pub ready : Ready G count issuers last earlier subjects
   pub len : length b ≡ level_count
   pub grown : Grown b₀ b (Led G r u v next)
-  pub pair : (d : ℕ) → next ≡ suc d → (d < ready.count) × (get_or G.subject d 0 ≡ r) × (get_or G.issuer d 0 ≡ u)
+  pub pair : (d : ℕ) → next ≡ suc d → (d < count) × (get_or G.subject d 0 ≡ r) × (get_or G.issuer d 0 ≡ u)
 
-module _ (G : Graph) (r u v : ℕ) {issuers last earlier : List ℕ} {subjects : ℕ} where
-  pub chaining_start : (b : List ℕ) (next : ℕ) → (R : Ready G issuers last earlier subjects) → length b ≡ level_count
-      → Last G.issuer G.subject R.count r u next → Chaining G r u v issuers last earlier subjects b b next
+module _ (G : Graph) (r u v : ℕ) {count : ℕ} {issuers last earlier : List ℕ} {subjects : ℕ} where
+  pub chaining_start : (b : List ℕ) (next : ℕ) → Ready G count issuers last earlier subjects → length b ≡ level_count
+      → Last G.issuer G.subject count r u next → Chaining G r u v count issuers last earlier subjects b b next
   chaining_start b next R len L = record {
     ready = R;
     len = len;
@@ -151,7 +151,7 @@ module _ (G : Graph) (r u v : ℕ) {issuers last earlier : List ℕ} {subjects :
     pair = L.found;
   }
 
-  module _ (b₀ b : List ℕ) (next d : ℕ) (C : Chaining G r u v issuers last earlier subjects b₀ b next) (is : next ≡ suc d) where
+  module _ (b₀ b : List ℕ) (next d : ℕ) (C : Chaining G r u v count issuers last earlier subjects b₀ b next) (is : next ≡ suc d) where
     pub chaining_place : d < delegation_limit
     chaining_place = omega (arith, (C.pair d is).0, C.ready.count_le)
 
@@ -200,7 +200,7 @@ module _ (G : Graph) (r u v : ℕ) {issuers last earlier : List ℕ} {subjects :
       split m x t (no n) (no q) =
           let k = t.leads in absurd (let z = prior.most k.del (omega (arith, n, q)) k.about_root k.is_issuer in omega (arith, t.from))
 
-      pub chaining_more : Chaining G r u v issuers last earlier subjects b₀ b' next'
+      pub chaining_more : Chaining G r u v count issuers last earlier subjects b₀ b' next'
       chaining_more =
           let p = C.pair d is in
           let le = last_le next' prior in

@@ -21,7 +21,7 @@ use Rattle.search.proofs.Laws.Room.{words}
 use Rattle.search.proofs.Laws.Walk.{alone}
 use Rattle.search.proofs.Laws.Answer.{found_by}
 
-module _ (G : Graph) (subjects known : ℕ) (levels : List ℕ) {issuers last earlier : List ℕ} (R : Ready G issuers last earlier subjects) (fits : known < 2 ^ 64)
+module _ (G : Graph) (subjects known : ℕ) (levels : List ℕ) {count : ℕ} {issuers last earlier : List ℕ} (R : Ready G count issuers last earlier subjects) (fits : known < 2 ^ 64)
     (C : (r : ℕ) → bit known r ≡ 1 → Closed G subjects known levels r) where
   key_lt : {r x l : ℕ} → r < key_limit → Holds G r x l → x < key_limit
   key_lt h (d1 f) = h
@@ -56,7 +56,7 @@ going_start G subjects roots levels S len = record { sound = S; len = len; close
 pub going_turn : {G : Graph} {subjects known due : ℕ} {levels : List ℕ} → Going G subjects known 0 due levels → Going G subjects known due 0 levels
 going_turn I = record { sound = I.sound; len = I.len; closed = λ r p q z. I.closed r p (bit_none r) q }
 
-pub going_end : {G : Graph} {subjects known left : ℕ} {levels issuers last earlier : List ℕ} → Ready G issuers last earlier subjects → known < 2 ^ 64
+pub going_end : {G : Graph} {subjects known left count : ℕ} {levels issuers last earlier : List ℕ} → Ready G count issuers last earlier subjects → known < 2 ^ 64
     → Going G subjects known left 0 levels → left ≡ 0 → Found (Holds G) known levels
 going_end {G} {subjects} {known} {left} {levels} R fits I z =
     complete G subjects known levels R fits (λ r p. I.closed r p (ap (λ (y : ℕ). bit y r) z ∙ bit_none r) (bit_none r)) I.sound

@@ -1,6 +1,6 @@
 -- Flags, and words with at most one member. Assumes nothing.
 use Prim.Native.Nat.{ℕ, ◌^◌, ◌≤◌, ◌<◌}
-use mathlib.Core.Path.{◌≡◌, refl, sym, ap, ◌∙◌, subst}
+use mathlib.Core.Path.{◌≡◌, refl, sym, ap, ◌∙◌}
 use mathlib.Core.Bool.{Bool, true, false, ◌||◌}
 use mathlib.Core.Logic.{◌⊎◌, inl, inr, ⊎_elim}
 use native.Mathlib.Decide.{ℕ_discrete, dec_lt}
@@ -74,27 +74,6 @@ module _ {P : ℕ → Type 0} {all w : ℕ} (left left' q : ℕ) (g : Gathered P
   fewer k (yes e) = let a = ap (bit left') e in omega arith
   fewer k (no n) = omega (arith, others k n)
 
-  within' : (k : ℕ) → bit left' k ≡ 1 → bit all k ≡ 1
-  within' k p = let f = fewer k (ℕ_discrete k q) in g.within k (⊎_elim (λ z. absurd (omega arith)) (λ z. z) (bit_two left k))
-
   -- what is left is one less
   pub gathered_less : q < key_limit → size key_limit left' < size key_limit left
   gathered_less h = size_more key_limit left' left q (λ j l. fewer j (ℕ_discrete j q)) h (omega arith)
-
-  pub gathered_skip : (P q → ⊥) → Gathered P all left' w
-  gathered_skip n = record { within = within'; only = g.only; has = λ k p a. go k p a (ℕ_discrete k q) }
-    where
-      go : (k : ℕ) → bit left' k ≡ 0 → Among all P k → Dec (k ≡ q) → bit w k ≡ 1
-      go k p a (yes e) = absurd (n (subst P e a.is))
-      go k p a (no m) = g.has k (sym (others k m) ∙ p) a
-
-  pub gathered_take : {w' : ℕ} → P q → bit w' q ≡ 1 → ((j : ℕ) → (j ≡ q → ⊥) → bit w' j ≡ bit w j) → Gathered P all left' w'
-  gathered_take {w'} p j o = record { within = within'; only = λ k b. only' k b (ℕ_discrete k q); has = λ k z a. has' k z a (ℕ_discrete k q) }
-    where
-      only' : (k : ℕ) → bit w' k ≡ 1 → Dec (k ≡ q) → Among all P k
-      only' k b (yes e) = subst (λ (y : ℕ). Among all P y) (sym e) (record { member = g.within q first; is = p })
-      only' k b (no n) = g.only k (sym (o k n) ∙ b)
-
-      has' : (k : ℕ) → bit left' k ≡ 0 → Among all P k → Dec (k ≡ q) → bit w' k ≡ 1
-      has' k z a (yes e) = ap (bit w') e ∙ j
-      has' k z a (no n) = o k n ∙ g.has k (sym (others k n) ∙ z) a

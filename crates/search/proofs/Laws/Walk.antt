@@ -252,13 +252,13 @@ module _ (G : Graph) (r : ℕ) (levels b : List ℕ) (active settled v : ℕ) (W
 -- ---- the end
 
 -- over a key that is no subject only the key itself stands
-pub alone : (G : Graph) {issuers last earlier : List ℕ} {subjects : ℕ} → Ready G issuers last earlier subjects → (r x l : ℕ) → bit subjects r ≡ 0
+pub alone : (G : Graph) {issuers last earlier : List ℕ} {count subjects : ℕ} → Ready G count issuers last earlier subjects → (r x l : ℕ) → bit subjects r ≡ 0
     → At G r x l → x ≡ r
 alone G {subjects = subjects} R r x l z a =
     stands_alone (λ d e p. let q = ap (bit subjects) (sym p) ∙ R.covers d e in let y : ◌≡◌ {A = ℕ} 0 1 = sym z ∙ q in omega arith) a.holds
 
-module _ (G : Graph) (r : ℕ) (levels b : List ℕ) (active settled : ℕ) (W : Walk G r levels b active settled 0) (issuers last earlier : List ℕ) (subjects : ℕ)
-    (R : Ready G issuers last earlier subjects) (S : Sound G levels) (is : (j : ℕ) → bit active j ≡ max (bit (get_or issuers r 0) j) (bit subjects j)) where
+module _ (G : Graph) (r : ℕ) (levels b : List ℕ) (active settled : ℕ) (W : Walk G r levels b active settled 0) (count : ℕ) (issuers last earlier : List ℕ) (subjects : ℕ)
+    (R : Ready G count issuers last earlier subjects) (S : Sound G levels) (is : (j : ℕ) → bit active j ≡ max (bit (get_or issuers r 0) j) (bit subjects j)) where
   issues : (u x h : ℕ) → Leads G r u x h → bit active u ≡ 1
   issues u x h e =
       let d = R.held e.del (subst (λ (z : ℕ). 0 < z) (sym e.is_grade) (omega arith)) in

@@ -1,10 +1,6 @@
 -- `coverage::contexts::contexts` meets its contract. The loop's invariant: the contexts of the first j revocations stand.
-use Prim.Native.Nat.{◌≤◌, ◌-◌}
 use Rattle.coverage.proofs.Laws.Group.{Grouping}
 use Rattle.coverage.proofs.contexts.contexts.Given as goal
 
 abbrev pub invariant-loop-j : goal.invariant-loop-j
-invariant-loop-j l = (l.j ≤ l.m) × Grouping l.target l.excluded l.j l.n l.count l.exclude l.members
-
-abbrev pub decreases-loop-j : goal.decreases-loop-j
-decreases-loop-j l = l.m - l.j
+invariant-loop-j l = Grouping l.facts.target l.excluded l.j l.facts.delegations l.count l.exclude l.members

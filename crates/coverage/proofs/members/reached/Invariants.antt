@@ -8,7 +8,7 @@ use Rattle.coverage.proofs.members.reached.Given as goal
 
 abbrev pub invariant-loop-left : goal.invariant-loop-left
 invariant-loop-left l =
-    Gathered (λ j. On l.found 0 (get_or l.subject (get_or l.target j 0) 0) (get_or l.issuer (get_or l.target j 0) 0)) l.members l.left l.w
+    Gathered (λ j. On l.found 0 (get_or l.delegations.subject.now (get_or l.target j 0) 0) (get_or l.delegations.issuer.now (get_or l.target j 0) 0)) l.members l.left l.w
 
 abbrev pub decreases-loop-left : goal.decreases-loop-left
 decreases-loop-left l = size revocation_limit l.left

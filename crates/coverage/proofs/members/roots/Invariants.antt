@@ -6,7 +6,7 @@ use Rattle.coverage.proofs.Laws.Put.{Passing}
 use Rattle.coverage.proofs.members.roots.Given as goal
 
 abbrev pub invariant-loop-left : goal.invariant-loop-left
-invariant-loop-left l = Passing l.members l.left (λ j. get_or l.subject (get_or l.target j 0) 0) l.w
+invariant-loop-left l = Passing l.members l.left (λ j. get_or l.delegations.subject.now (get_or l.target j 0) 0) l.w
 
 abbrev pub decreases-loop-left : goal.decreases-loop-left
 decreases-loop-left l = size revocation_limit l.left

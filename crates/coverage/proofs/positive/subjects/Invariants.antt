@@ -1,5 +1,4 @@
 -- `coverage::positive::subjects` meets its contract. The loop's invariant: w has the subjects of the first d delegations.
-use Prim.Native.Nat.{◌≤◌, ◌-◌}
 use mathlib.Core.Path.{◌≡◌}
 use lib.ListN.{get_or}
 use Rattle.search.specs.Sets.{Word}
@@ -7,7 +6,4 @@ use Rattle.coverage.specs.Arrays.{Any}
 use Rattle.coverage.proofs.positive.subjects.Given as goal
 
 abbrev pub invariant-loop-d : goal.invariant-loop-d
-invariant-loop-d l = (l.d ≤ l.n) × Word l.w (Any l.d (λ j k. get_or l.subject j 0 ≡ k))
-
-abbrev pub decreases-loop-d : goal.decreases-loop-d
-decreases-loop-d l = l.n - l.d
+invariant-loop-d l = Word l.w (Any l.d (λ j k. get_or l.facts.subject j 0 ≡ k))

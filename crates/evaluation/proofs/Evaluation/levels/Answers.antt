@@ -5,14 +5,16 @@ use Rattle.caps.proofs.Laws.Caps.{grades_live}
 use Rattle.evaluation.proofs.Laws.Ask.{effective_is}
 use Rattle.evaluation.proofs.Evaluation.levels.Goals as goal
 
-pub search-requires-clause-ready : goal.search-requires-clause-ready
-search-requires-clause-ready c =
+pub invariant_of-delegations : goal.invariant_of-delegations
+invariant_of-delegations c =
     let v = c.args.self.now in
-    let K = c.requires.0 in
-    ready v.facts v.grades 0 K.fit (grades_live K.fit K.grades.lives) c.index-edges.ensures K.subjects
+    let K = c.requires.0 in record {
+      ready = ready v.facts v.grades 0 K.fit (grades_live K.fit K.grades.lives) c.index-edges.ensures K.subjects;
+      subject_lt = K.fit.subject_lt;
+    }
 
-pub search-requires-clause-sound : goal.search-requires-clause-sound
-search-requires-clause-sound c = sound_zeros (seen c.args.self.now.facts c.args.self.now.grades 0)
+pub search-requires : goal.search-requires
+search-requires c = sound_zeros (seen c.args.self.now.facts c.args.self.now.grades 0)
 
 pub returns : goal.returns
 returns c =

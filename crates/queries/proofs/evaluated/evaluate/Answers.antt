@@ -8,9 +8,6 @@ use Rattle.queries.proofs.evaluated.evaluate.Goals as goal
 facts_kept : {s : Store} {e f : Facts} → f ≡ e → FactsOf s e → FactsOf s f
 facts_kept {s} same of = subst (λ f. FactsOf s f) (sym same) of
 
-pub evaluate-evaluation-requires : goal.evaluate-evaluation-requires
-evaluate-evaluation-requires c = c.facts-facts.ensures.0
-
 pub returns : goal.returns
 returns c = (
   record {

@@ -1,17 +1,15 @@
 -- `search::levels::level` meets its contract. The loop's invariant: v is the height below l.
 use borrow.Author.Rules.{rules}
-use Prim.Native.Nat.{ℕ}
-use mathlib.Core.Path.{◌≡◌, refl, ap, ◌∙◌}
+use mathlib.Core.Path.{refl}
 use native.Mathlib.Omega.{arith}
 use native.Mathlib.Numerals.{add-one}
 use Rattle.keyset.proofs.Laws.{bit_le}
-use Rattle.places.specs.Limits.{level_count}
 use Rattle.search.specs.Levels.{height_below, word}
 use Rattle.search.proofs.levels.level.Goals as goal
 
 pub loop-l-init : goal.loop-l-init
 unfolding height_below
-loop-l-init c = (search rules, search rules, refl)
+loop-l-init c = (search rules, refl)
 
 pub overflow_add-v : goal.overflow_add-v
 overflow_add-v c = omega (arith, c.digit-v.ensures, bit_le (word c.args.levels.now c.args.root.0 c.loop-l.l) c.args.key.0)
@@ -19,10 +17,6 @@ overflow_add-v c = omega (arith, c.digit-v.ensures, bit_le (word c.args.levels.n
 pub loop-l-preserved : goal.loop-l-preserved
 unfolding height_below
 loop-l-preserved c = (
-  search rules,
   omega (arith, c.digit-v.ensures, bit_le (word c.args.levels.now c.args.root.0 c.loop-l.l) c.args.key.0),
-  rw (add-one) (omega (arith, c.digit-v.ensures, c.loop-l.invariant.2)),
+  rw (add-one) (omega (arith, c.digit-v.ensures, c.loop-l.invariant.1)),
 )
-
-pub returns : goal.returns
-returns c = c.loop-l.invariant.2 ∙ ap (λ (l : ℕ). height_below l c.args.levels.now c.args.root.0 c.args.key.0) (let e : c.loop-l.l ≡ level_count = omega arith in e)

@@ -1,12 +1,8 @@
 -- `search::levels::level` meets its contract. The loop's invariant: v is the height below l.
-use Prim.Native.Nat.{◌≤◌, ◌-◌}
+use Prim.Native.Nat.{◌≤◌}
 use mathlib.Core.Path.{◌≡◌}
-use Rattle.places.specs.Limits.{level_count}
 use Rattle.search.specs.Levels.{height_below}
 use Rattle.search.proofs.levels.level.Given as goal
 
 abbrev pub invariant-loop-l : goal.invariant-loop-l
-invariant-loop-l l = (l.l ≤ level_count) × (l.v ≤ l.l) × (l.v ≡ height_below l.l l.levels l.r l.x)
-
-abbrev pub decreases-loop-l : goal.decreases-loop-l
-decreases-loop-l l = level_count - l.l
+invariant-loop-l l = (l.v ≤ l.l) × (l.v ≡ height_below l.l l.levels l.r l.x)

@@ -1,5 +1,5 @@
 -- `search::levels::row_of` meets its contract. The loop's invariant: the bytes below x are the keys' heights.
-use Prim.Native.Nat.{ℕ, ◌≤◌, ◌<◌, ◌-◌}
+use Prim.Native.Nat.{ℕ, ◌<◌}
 use mathlib.Core.Path.{◌≡◌}
 use lib.ListN.{get_or, length}
 use Rattle.places.specs.Limits.{key_limit}
@@ -7,7 +7,4 @@ use Rattle.search.specs.Levels.{height}
 use Rattle.search.proofs.levels.row_of.Given as goal
 
 abbrev pub invariant-loop-x : goal.invariant-loop-x
-invariant-loop-x l = (l.x ≤ key_limit) × (length l.row ≡ key_limit) × ((y : ℕ) → y < l.x → get_or l.row y 0 ≡ height l.levels l.root.0 y)
-
-abbrev pub decreases-loop-x : goal.decreases-loop-x
-decreases-loop-x l = key_limit - l.x
+invariant-loop-x l = (length l.row ≡ key_limit) × ((y : ℕ) → y < l.x → get_or l.row y 0 ≡ height l.levels l.root.0 y)

@@ -1,30 +1,31 @@
 -- `search::widest::relax_edges` meets its contract. The loop's invariant: the pair's delegations from next on are relaxed, and next is one of the pair's, or 0.
 use Prim.Native.Nat.{ℕ, ◌<◌, ◌-◌}
-use mathlib.Core.Path.{◌≡◌, sym, subst}
+use mathlib.Core.Path.{sym, subst}
 use native.Mathlib.Omega.{arith}
 use Rattle.places.specs.Limits.{delegation_limit}
-use Rattle.search.specs.Graph.{Graph, graph}
+use Rattle.search.specs.Graph.{Graph}
+use Rattle.search.specs.Delegations.{graph_of}
 use Rattle.search.specs.Index.{Last}
-use Rattle.search.specs.Walk.{Grown, Led}
 use Rattle.search.proofs.Laws.Above.{one_less}
 use Rattle.search.proofs.Laws.Chain.{chaining_start, chaining_place, chaining_more, chaining_less}
+use Rattle.search.proofs.Laws.Lent.{ready_of}
 use Rattle.search.proofs.widest.relax_edges.Goals.{In-loop-next, Start}
 use Rattle.search.proofs.widest.relax_edges.Goals as goal
 
 abbrev gr : Start → Graph
-gr c = graph c.args.issuer.now c.args.audience.now c.args.subject.now c.args.grades.now c.args.exclude
+gr c = graph_of c.args.delegations.now c.args.exclude
 
 place : (c : In-loop-next) → c.loop-next.next - 1 < delegation_limit
 place c =
-    chaining_place (graph c.args.issuer.now c.args.audience.now c.args.subject.now c.args.grades.now c.args.exclude) c.args.r c.args.u c.args.v c.args.buckets.now c.loop-next.buckets c.loop-next.next (c.loop-next.next - 1)
+    chaining_place (graph_of c.args.delegations.now c.args.exclude) c.args.r c.args.u c.args.v c.args.buckets.now c.loop-next.buckets c.loop-next.next (c.loop-next.next - 1)
     c.loop-next.invariant (one_less c.loop-next.next c.loop-next-test.true)
 
 pub loop-next-init : goal.loop-next-init
 loop-next-init c =
     let a = c.args in
-    let R = c.requires.ready in
-    chaining_start (gr (goal.at.loop-next-init c).Start) a.r a.u a.v a.buckets.now c.wide-next.result R c.requires.r_lt_key_limit.3
-    (subst (λ (z : ℕ). Last a.issuer.now a.subject.now R.count a.r a.u z) (sym c.wide-next.ensures) (R.indexed.start a.r a.u c.requires.r_lt_key_limit.0 c.requires.r_lt_key_limit.1))
+    let R = (ready_of c.args.delegations.now c.args.exclude) in
+    chaining_start (gr (goal.at.loop-next-init c).Start) a.r a.u a.v a.buckets.now c.wide-next.result R (omega arith)
+    (subst (λ (z : ℕ). Last a.delegations.now.issuer.now a.delegations.now.subject.now a.delegations.now.count a.r a.u z) (sym c.wide-next.ensures) (R.indexed.start a.r a.u c.requires.0 c.requires.1))
 
 pub bounds-grades-d : goal.bounds-grades-d
 bounds-grades-d c = place (goal.at.bounds-grades-d c).In-loop-next
@@ -32,14 +33,8 @@ bounds-grades-d c = place (goal.at.bounds-grades-d c).In-loop-next
 pub bounds-audience-d : goal.bounds-audience-d
 bounds-audience-d c = place (goal.at.bounds-audience-d c).In-loop-next
 
-pub relax-requires : goal.relax-requires
-relax-requires c =
-    let P = c.loop-next.invariant.ready.placed in
-    let d = c.loop-next.next - 1 in
-    (c.requires.r_lt_key_limit.2, P.grade_le d, P.audience_lt d, c.loop-next.invariant.len)
-
-pub bounds-earlier-d : goal.bounds-earlier-d
-bounds-earlier-d c = place (goal.at.bounds-earlier-d c).In-loop-next
+pub bounds-edges-d : goal.bounds-edges-d
+bounds-edges-d c = place (goal.at.bounds-edges-d c).In-loop-next
 
 pub loop-next-smaller : goal.loop-next-smaller
 loop-next-smaller c =
@@ -50,10 +45,3 @@ pub loop-next-preserved : goal.loop-next-preserved
 loop-next-preserved c =
     chaining_more (gr (goal.at.loop-next-preserved c).Start) c.args.r c.args.u c.args.v c.args.buckets.now c.loop-next.buckets c.loop-next.next (c.loop-next.next - 1)
     c.loop-next.invariant (one_less c.loop-next.next c.loop-next-test.true) _ c.wide-next-in-loop-next.result c.wide-next-in-loop-next.ensures c.relax.ensures
-
-pub returns : goal.returns
-returns c =
-    let a = c.args in
-    let l = c.loop-next in
-    let e : l.next ≡ 0 = omega arith in
-    subst (λ (z : ℕ). Grown a.buckets.now l.buckets (Led (gr (goal.at.returns c).Start) a.r a.u a.v z)) e l.invariant.grown

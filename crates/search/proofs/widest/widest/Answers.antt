@@ -6,23 +6,25 @@ use lib.ListN.{get_or}
 use Rattle.keyset.specs.Word.{bit}
 use Rattle.keyset.proofs.Laws.{size_le}
 use Rattle.places.specs.Limits.{key_limit}
-use Rattle.search.specs.Graph.{Graph, graph}
+use Rattle.search.specs.Graph.{Graph}
+use Rattle.search.specs.Delegations.{graph_of}
 use Rattle.search.specs.Walk.{In}
 use Rattle.search.proofs.Laws.Above.{one_less}
 use Rattle.search.proofs.Laws.Sets.{is_in, not_in}
 use Rattle.search.proofs.Laws.Grow.{grown_set}
 use Rattle.search.proofs.Laws.Walk.{Walk, walk_start, row_excluded, pending, walk_bottom, walk_down, walk_settle, settles_more, walk_end}
+use Rattle.search.proofs.Laws.Lent.{ready_of}
 use Rattle.search.proofs.widest.widest.Goals.{After-lowest-u, After-minus-w, Start}
 use Rattle.search.proofs.widest.widest.Goals as goal
 
 abbrev gr : Start → Graph
-gr c = graph c.args.issuer.now c.args.audience.now c.args.subject.now c.args.grades.now c.args.exclude
+gr c = graph_of c.args.delegations.now c.args.exclude
 
 -- the walk, at the level that is under way
 here : (c : After-minus-w)
-    → Walk (graph c.args.issuer.now c.args.audience.now c.args.subject.now c.args.grades.now c.args.exclude) c.args.r c.args.levels.now c.loop-above.buckets c.union-active.result c.loop-above.settled (suc (c.loop-above.above - 1))
+    → Walk (graph_of c.args.delegations.now c.args.exclude) c.args.r c.args.levels.now c.loop-above.buckets c.union-active.result c.loop-above.settled (suc (c.loop-above.above - 1))
 here c =
-    subst (λ (n : ℕ). Walk (graph c.args.issuer.now c.args.audience.now c.args.subject.now c.args.grades.now c.args.exclude) c.args.r c.args.levels.now c.loop-above.buckets c.union-active.result c.loop-above.settled n)
+    subst (λ (n : ℕ). Walk (graph_of c.args.delegations.now c.args.exclude) c.args.r c.args.levels.now c.loop-above.buckets c.union-active.result c.loop-above.settled n)
     (one_less c.loop-above.above c.loop-above-test.true) c.loop-above.invariant
 
 -- what is left to expand there
@@ -34,7 +36,7 @@ left_is c j = c.minus-w.ensures j ∙ ap (λ (z : ℕ). z - bit c.loop-above.set
 next-key : (c : After-lowest-u)
     → In c.loop-above.buckets (c.loop-above.above - 1) c.lowest-u.result × (bit c.union-active.result c.lowest-u.result ≡ 1) × (bit c.loop-above.settled c.lowest-u.result ≡ 0)
 next-key c =
-    pending (graph c.args.issuer.now c.args.audience.now c.args.subject.now c.args.grades.now c.args.exclude) c.args.r c.args.levels.now c.loop-above.buckets c.union-active.result c.loop-above.settled (c.loop-above.above - 1) (subst (λ (n : ℕ). Walk (graph c.args.issuer.now c.args.audience.now c.args.subject.now c.args.grades.now c.args.exclude) c.args.r c.args.levels.now c.loop-above.buckets c.union-active.result c.loop-above.settled n)
+    pending (graph_of c.args.delegations.now c.args.exclude) c.args.r c.args.levels.now c.loop-above.buckets c.union-active.result c.loop-above.settled (c.loop-above.above - 1) (subst (λ (n : ℕ). Walk (graph_of c.args.delegations.now c.args.exclude) c.args.r c.args.levels.now c.loop-above.buckets c.union-active.result c.loop-above.settled n)
     (one_less c.loop-above.above c.loop-above-test.true) c.loop-above.invariant)
     c.minus-w.result c.lowest-u.result (λ j. c.minus-w.ensures j ∙ ap (λ (z : ℕ). z - bit c.loop-above.settled j) (c.meet.ensures j)) c.lowest-u.ensures.1
 
@@ -47,21 +49,6 @@ loop-above-init c =
     let a = c.args in
     walk_start (gr (goal.at.loop-above-init c).Start) a.r a.levels.now c.only.result c.union-active.result
     (not_in a.exclude a.r c.has.result c.has.ensures c.if-has.false) c.only.ensures.0 c.only.ensures.1
-
-pub bounds-buckets-v : goal.bounds-buckets-v
-bounds-buckets-v c = omega (arith, c.loop-above.invariant.len, c.loop-above.invariant.above_le)
-
-pub relax_edges-requires : goal.relax_edges-requires
-relax_edges-requires c =
-    let W = c.loop-above.invariant in record {
-      ready = c.requires.ready;
-      r_lt_key_limit = (c.requires.r_lt_key_limit, c.lowest-u.ensures.0, omega (arith, W.above_le, c.loop-above-test.true), W.len);
-    }
-
-pub relax_members-requires : goal.relax_members-requires
-relax_members-requires c =
-    let W = c.loop-above.invariant in
-    (c.lowest-u.ensures.0, omega (arith, W.above_le, c.loop-above-test.true), c.relax_edges.ensures.same ∙ W.len)
 
 pub loop-above-smaller-then-w-ne0 : goal.loop-above-smaller-then-w-ne0
 loop-above-smaller-then-w-ne0 c =
@@ -83,15 +70,6 @@ loop-above-preserved-then-w-ne0 c =
     c.lowest-u.result c.with-settled.result _ _ c.lowest-u.ensures.0 p.0 p.1 p.2 c.with-settled.ensures.0 c.with-settled.ensures.1 c.requires.sound
     c.relax_edges.ensures c.relax_members.ensures)
 
-pub bounds-buckets-v-then-v-gt0 : goal.bounds-buckets-v-then-v-gt0
-bounds-buckets-v-then-v-gt0 c = omega (arith, c.loop-above.invariant.len, c.loop-above.invariant.above_le)
-
-pub bounds-buckets-v-then-v-gt0-2 : goal.bounds-buckets-v-then-v-gt0-2
-bounds-buckets-v-then-v-gt0-2 c = omega (arith, c.loop-above.invariant.len, c.loop-above.invariant.above_le)
-
-pub bounds-buckets-v-then-v-gt0-3 : goal.bounds-buckets-v-then-v-gt0-3
-bounds-buckets-v-then-v-gt0-3 c = omega (arith, c.loop-above.invariant.len, c.loop-above.invariant.above_le)
-
 pub loop-above-preserved-then-v-gt0 : goal.loop-above-preserved-then-v-gt0
 loop-above-preserved-then-v-gt0 c =
     let l = c.loop-above in
@@ -112,4 +90,4 @@ returns c =
     let e : l.above ≡ 0 = omega arith in
     walk_end (gr (goal.at.returns c).Start) a.r a.levels.now l.buckets c.union-active.result l.settled
     (subst (λ (n : ℕ). Walk (gr (goal.at.returns c).Start) a.r a.levels.now l.buckets c.union-active.result l.settled n) e l.invariant)
-    a.issuers.now a.last.now a.earlier.now a.subjects c.requires.ready c.requires.sound c.union-active.ensures
+    a.delegations.now.count a.delegations.now.edges.now.issuers a.delegations.now.edges.now.last a.delegations.now.edges.now.earlier a.delegations.now.subjects (ready_of c.args.delegations.now c.args.exclude) c.requires.sound c.union-active.ensures

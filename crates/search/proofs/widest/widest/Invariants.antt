@@ -2,13 +2,13 @@
 use Prim.Native.Nat.{◌+◌, ◌-◌}
 use Rattle.keyset.specs.Word.{size}
 use Rattle.places.specs.Limits.{key_limit}
-use Rattle.search.specs.Graph.{graph}
+use Rattle.search.specs.Delegations.{graph_of}
 use Rattle.search.proofs.Laws.Walk.{Walk}
 use Rattle.search.proofs.widest.widest.Given as goal
 
 abbrev pub invariant-loop-above : goal.invariant-loop-above
 invariant-loop-above l =
-    Walk (graph l.issuer l.audience l.subject l.grades l.exclude) l.r l.levels l.buckets l.active l.settled l.above
+    Walk (graph_of l.delegations l.exclude) l.r l.levels l.buckets l.active l.settled l.above
 
 abbrev pub decreases-loop-above : goal.decreases-loop-above
 decreases-loop-above l =

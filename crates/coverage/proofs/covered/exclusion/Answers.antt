@@ -1,6 +1,6 @@
--- `coverage::exclusion` meets its contract: the revokers and what they administer, if one of these keys was found over s.
+-- `coverage::covered::exclusion` meets its contract: the revokers and what they administer, if one of these keys was found over s.
 use Rattle.coverage.proofs.Laws.Cover.{exclusion_nobody, exclusion_covers, exclusion_none}
-use Rattle.coverage.proofs.exclusion.Goals as goal
+use Rattle.coverage.proofs.covered.exclusion.Goals as goal
 
 pub returns-then-w-eq0 : goal.returns-then-w-eq0
 returns-then-w-eq0 c = exclusion_nobody c.args.w c.args.s c.args.subjects c.args.found.now c.if-w-eq0.true

@@ -1,4 +1,4 @@
--- `coverage::share` meets its contract: the words share a key where their meet has a member.
+-- `coverage::covered::share` meets its contract: the words share a key where their meet has a member.
 use Prim.Native.Nat.{ℕ}
 use mathlib.Core.Path.{ap, ◌∙◌}
 use native.Mathlib.Omega.{arith}
@@ -6,7 +6,7 @@ use borrow.Author.Tests.{eqb-true, eqb-false, not-true, not-false}
 use lib.Dec.{eqb}
 use Rattle.keyset.specs.Word.{bit}
 use Rattle.keyset.proofs.Laws.{bit_le, bit_none, some_member}
-use Rattle.coverage.proofs.share.Goals as goal
+use Rattle.coverage.proofs.covered.share.Goals as goal
 
 pub returns : goal.returns
 returns c = record {

@@ -1,0 +1,25 @@
+// The delegations as one search walks them, lent: their columns, the index of these, and the grades at which they are usable.
+
+ghost use Rattle.std.specs.Prelude.{ℕ, ◌<◌, get_or};
+ghost use Rattle.places.specs.Limits.{key_limit};
+ghost use Rattle.search.specs.Graph.{graph};
+ghost use Rattle.search.specs.Index.{Ready};
+
+use crate::edges::Edges;
+use places::DELEGATION_LIMIT;
+
+#[derive(Clone, Copy)]
+pub struct Delegations<'a> {
+    pub issuer: &'a [u8; DELEGATION_LIMIT],
+    pub audience: &'a [u8; DELEGATION_LIMIT],
+    pub subject: &'a [u8; DELEGATION_LIMIT],
+    // the level c(d) plus one, and 0 where the delegation is not usable
+    pub grades: &'a [u8; DELEGATION_LIMIT],
+    // how many of them there are
+    pub count: usize,
+    pub edges: &'a Edges,
+    // the subjects of usable delegations are among these
+    pub subjects: u64,
+    pub ghost ready: { Ready (graph issuer.now audience.now subject.now grades.now 0) count edges.now.issuers edges.now.last edges.now.earlier subjects },
+    pub ghost subject_lt: { (d : ℕ) → get_or subject.now d 0 < key_limit },
+}
