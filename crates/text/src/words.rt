@@ -18,7 +18,10 @@ pub enum WordsError {
 
 pub fn split(line: &[u8]) -> Result<Words<'_>, WordsError> {
     let text = without_comment(line);
-    if !text.iter().all(|b| is_space(*b) || is_sign(*b) || is_letter(*b)) {
+    if !text
+        .iter()
+        .all(|b| is_space(*b) || is_sign(*b) || is_letter(*b))
+    {
         return Err(WordsError::StrangeByte);
     }
     let mut words = ArrayVec::new();
