@@ -1,146 +1,139 @@
 // Questions whose answer is one line: a key's power, and what a delegation conveys and whether it stands.
-ghost use Rattle.queries.specs.Evaluated.{GoodEvaluated};
+use crate::say::{Answer, Refused, level_or, name};
+use keyline::refusal::Refusal;
+use keyline::standing::Standing;
+use notation::level;
+use power_levels::power::Power;
+use std::io;
+use text::name::Name;
 
-use crate::say;
-use answers::answer::{Liveness, Powered, Stood};
-use queries::evaluated::Evaluated;
-
-pub(crate) fn effective(e: Evaluated, subject: &[u8], key: &[u8], plain: bool)
-    requires { GoodEvaluated e }
-{
-    let r = e.effective_power(subject, key);
+pub(crate) fn effective(
+    rt: &impl Print,
+    subject: &Name,
+    key: &Name,
+    power: Result<Option<Power>, Refusal>,
+    plain: bool,
+) -> io::Result<()> {
     if plain {
-        fact(b"power ", subject, key, r);
-        return;
+        return fact(rt, "power", subject, key, power);
     }
-    over(subject, key, r);
-    say::text(b"\n");
+    words(rt, subject, key, power)?;
+    rt.println("")
 }
 
-pub(crate) fn positive(e: Evaluated, subject: &[u8], key: &[u8], plain: bool)
-    requires { GoodEvaluated e }
-{
-    let r = e.positive_power(subject, key);
+pub(crate) fn positive(
+    rt: &impl Print,
+    subject: &Name,
+    key: &Name,
+    power: Result<Option<Power>, Refusal>,
+    plain: bool,
+) -> io::Result<()> {
     if plain {
-        fact(b"positive ", subject, key, r);
-        return;
+        return fact(rt, "positive", subject, key, power);
     }
-    over(subject, key, r);
-    say::text(b", were nothing revoked\n");
+    words(rt, subject, key, power)?;
+    rt.println(", were nothing revoked")
 }
 
-fn fact(word: &[u8], subject: &[u8], key: &[u8], r: Powered) {
-    say::text(word);
-    say::name(subject);
-    say::text(b" ");
-    say::name(key);
-    say::text(b" ");
-    say::powered(r);
-    say::text(b"\n");
+fn fact(
+    rt: &impl Print,
+    word: &'static str,
+    subject: &Name,
+    key: &Name,
+    power: Result<Option<Power>, Refusal>,
+) -> io::Result<()> {
+    print!(rt; "{word} ")?;
+    name(rt, subject)?;
+    print!(rt; " ")?;
+    name(rt, key)?;
+    println!(rt; " {}", Answer(power.map(|power| level_or(power, "none"))))
 }
 
-fn over(subject: &[u8], key: &[u8], r: Powered) {
-    say::text(b"  ");
-    say::name(key);
-    match r {
-        Powered::Nothing => say::text(b" has no power over "),
-        Powered::Level(p) => {
-            say::text(b" has ");
-            say::level(p);
-            say::text(b" over ");
+fn words(
+    rt: &impl Print,
+    subject: &Name,
+    key: &Name,
+    power: Result<Option<Power>, Refusal>,
+) -> io::Result<()> {
+    print!(rt; "  ")?;
+    name(rt, key)?;
+    match power {
+        Ok(Some(power)) => print!(rt; " has {} over ", level::name(power))?,
+        Ok(None) => print!(rt; " has no power over ")?,
+        Err(why) => print!(rt; ": {} for ", Refused(why))?,
+    }
+    name(rt, subject)
+}
+
+pub(crate) fn conveys(
+    rt: &impl Print,
+    digest: &Name,
+    power: Result<Option<Power>, Refusal>,
+    plain: bool,
+) -> io::Result<()> {
+    if plain {
+        let answer = Answer(power.map(|power| level_or(power, "none")));
+        return line(rt, "conveys ", digest, answer);
+    }
+    print!(rt; "  ")?;
+    name(rt, digest)?;
+    println!(rt;
+        " conveys {}",
+        Answer(power.map(|power| level_or(power, "nothing")))
+    )
+}
+
+pub(crate) fn live(
+    rt: &impl Print,
+    digest: &Name,
+    live: Result<bool, Refusal>,
+    plain: bool,
+) -> io::Result<()> {
+    if plain {
+        let answer = Answer(live.map(|live| if live { "yes" } else { "no" }));
+        return line(rt, "live ", digest, answer);
+    }
+    let answer = Answer(live.map(|live| if live { "is live" } else { "is not live" }));
+    line(rt, "  ", digest, answer)
+}
+
+pub(crate) fn standing(
+    rt: &impl Print,
+    digest: &Name,
+    standing: Result<Option<Standing>, Refusal>,
+    plain: bool,
+) -> io::Result<()> {
+    if plain {
+        let answer = Answer(standing.map(|standing| standing_word(standing)));
+        return line(rt, "standing ", digest, answer);
+    }
+    let answer = Answer(standing.map(|standing| standing_words(standing)));
+    line(rt, "  ", digest, answer)
+}
+
+fn standing_word(standing: Option<Standing>) -> &'static str {
+    match standing {
+        Some(Standing::Live) => "Live",
+        Some(Standing::Revoked) => "Revoked",
+        Some(Standing::Unsupported) => "Unsupported",
+        None => "absent",
+    }
+}
+
+fn standing_words(standing: Option<Standing>) -> &'static str {
+    match standing {
+        Some(Standing::Live) => "is live",
+        Some(Standing::Revoked) => "is revoked",
+        Some(Standing::Unsupported) => {
+            "is unsupported: its issuer has no power over its subject"
         }
-        Powered::Refused(why) => {
-            say::text(b": ");
-            say::refused(why);
-            say::text(b" for ");
-        }
-    }
-    say::name(subject);
-}
-
-pub(crate) fn conveys(e: Evaluated, digest: &[u8], plain: bool)
-    requires { GoodEvaluated e }
-{
-    let r = e.conveyed_power(digest);
-    if plain {
-        begun(b"conveys ", digest);
-        say::text(b" ");
-        say::powered(r);
-    } else {
-        begun(b"  ", digest);
-        say::text(b" conveys ");
-        conveyed(r);
-    }
-    say::text(b"\n");
-}
-
-fn conveyed(r: Powered) {
-    match r {
-        Powered::Nothing => say::text(b"nothing"),
-        Powered::Level(p) => say::level(p),
-        Powered::Refused(why) => say::refused(why),
+        None => "is no delegation that is held",
     }
 }
 
-fn begun(word: &[u8], digest: &[u8]) {
-    say::text(word);
-    say::name(digest);
-}
-
-pub(crate) fn live(e: Evaluated, digest: &[u8], plain: bool)
-    requires { GoodEvaluated e }
-{
-    let r = e.is_live(digest);
-    if plain {
-        begun(b"live ", digest);
-        liveness(r, b" yes", b" no");
-    } else {
-        begun(b"  ", digest);
-        liveness(r, b" is live", b" is not live");
-    }
-    say::text(b"\n");
-}
-
-fn liveness(r: Liveness, yes: &[u8], no: &[u8]) {
-    match r {
-        Liveness::Live => say::text(yes),
-        Liveness::Dead => say::text(no),
-        Liveness::Refused(why) => say::refused(why),
-    }
-}
-
-pub(crate) fn standing(e: Evaluated, digest: &[u8], plain: bool)
-    requires { GoodEvaluated e }
-{
-    let r = e.standing(digest);
-    if plain {
-        begun(b"standing ", digest);
-        stood(r);
-    } else {
-        begun(b"  ", digest);
-        stood_in_words(r);
-    }
-    say::text(b"\n");
-}
-
-fn stood(r: Stood) {
-    match r {
-        Stood::Live => say::text(b" Live"),
-        Stood::Revoked => say::text(b" Revoked"),
-        Stood::Unsupported => say::text(b" Unsupported"),
-        Stood::Absent => say::text(b" absent"),
-        Stood::Refused(why) => say::refused(why),
-    }
-}
-
-fn stood_in_words(r: Stood) {
-    match r {
-        Stood::Live => say::text(b" is live"),
-        Stood::Revoked => say::text(b" is revoked"),
-        Stood::Unsupported => say::text(
-            b" is unsupported: its issuer has no power over its subject",
-        ),
-        Stood::Absent => say::text(b" is no delegation that is held"),
-        Stood::Refused(why) => say::refused(why),
-    }
+// What is said of a delegation.
+fn line(rt: &impl Print, before: &'static str, digest: &Name, said: Answer) -> io::Result<()> {
+    print!(rt; "{before}")?;
+    name(rt, digest)?;
+    println!(rt; " {said}")
 }

@@ -1,25 +1,76 @@
 // Which answer a question has. Each is worked out from the store as it stands at the question's line.
-ghost use Rattle.keyline_memory.specs.State.{GoodState};
-
+use crate::kernel::{Kind, Store};
+use crate::list::Heading;
 use crate::{graph, list, members, power};
-use keyline_memory::state::State;
 use notation::statement::Question;
+use std::io;
 
-pub(crate) fn answer(state: State, q: Question, a: &[u8], b: &[u8], plain: bool)
-    requires { GoodState state }
-{
-    match q {
-        Question::Members => members::members(state.evaluate(), a, plain),
-        Question::Power => power::effective(state.evaluate(), a, b, plain),
-        Question::Positive => power::positive(state.evaluate(), a, b, plain),
-        Question::Live => power::live(state.evaluate(), a, plain),
-        Question::Conveys => power::conveys(state.evaluate(), a, plain),
-        Question::Standing => power::standing(state.evaluate(), a, plain),
-        Question::Closure => list::closure(state, state.evaluate(), a, plain),
-        Question::RevocationsOf => list::revocations_of(state, a, plain),
-        Question::DelegationsTo => list::delegations_to(state, a, b, plain),
-        Question::Certificates => list::certificates(state, plain),
-        Question::Subjects => list::subjects(state, plain),
-        Question::Graph => graph::graph(state, state.evaluate(), a),
+const BOTH: [Kind; 2] = [Kind::Delegation, Kind::Revocation];
+
+pub(crate) fn answer(
+    rt: &(impl Print + AllocGlobal),
+    store: &Store,
+    question: Question,
+    plain: bool,
+) -> io::Result<()> {
+    match question {
+        Question::Members { subject } => {
+            let listed = store.evaluate().members(rt.alloc(), &subject);
+            members::members(rt, &subject, listed, plain)
+        }
+        Question::Power { subject, key } => {
+            let power = store.evaluate().effective_power(&subject, &key);
+            power::effective(rt, &subject, &key, power, plain)
+        }
+        Question::Positive { subject, key } => {
+            let power = store.evaluate().positive_power(&subject, &key);
+            power::positive(rt, &subject, &key, power, plain)
+        }
+        Question::Live { delegation } => {
+            let live = store.evaluate().is_live(&delegation);
+            power::live(rt, &delegation, live, plain)
+        }
+        Question::Conveys { delegation } => {
+            let power = store.evaluate().conveyed_power(&delegation);
+            power::conveys(rt, &delegation, power, plain)
+        }
+        Question::Standing { delegation } => {
+            let standing = store.evaluate().standing(&delegation);
+            power::standing(rt, &delegation, standing, plain)
+        }
+        Question::Closure { subject } => {
+            let heading = Heading {
+                word: "closure",
+                names: &[subject],
+            };
+            let listed = store.evaluate().closure(rt.alloc(), &subject);
+            list::certificates(rt, store, heading, &BOTH, listed, plain)
+        }
+        Question::RevocationsOf { certificate } => {
+            let heading = Heading {
+                word: "revocations",
+                names: &[certificate],
+            };
+            let listed = store.revocations_of(rt.alloc(), &certificate);
+            list::certificates(rt, store, heading, &[Kind::Revocation], listed, plain)
+        }
+        Question::DelegationsTo { subject, audience } => {
+            let heading = Heading {
+                word: "delegations",
+                names: &[subject, audience],
+            };
+            let listed = store.delegations_to(rt.alloc(), &subject, &audience);
+            list::certificates(rt, store, heading, &[Kind::Delegation], listed, plain)
+        }
+        Question::Certificates => {
+            let heading = Heading {
+                word: "certificates",
+                names: &[],
+            };
+            let listed = store.certificates(rt.alloc());
+            list::certificates(rt, store, heading, &BOTH, listed, plain)
+        }
+        Question::Subjects => list::subjects(rt, store.subjects(rt.alloc()), plain),
+        Question::Graph { subject } => graph::graph(rt, store, &subject),
     }
 }

@@ -2,5 +2,7 @@
 // total: whatever the bytes are, a line is a statement or is wrong for a reason that can be said.
 #![tactic(auto)]
 
+pub mod expected;
+pub mod level;
 pub mod reading;
 pub mod statement;

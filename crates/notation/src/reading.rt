@@ -1,210 +1,166 @@
 // From a line to a statement. A line whose second word is `:` is a certificate; every other line is a question, told by its first words.
-use crate::statement;
-use crate::statement::{Expected, Kind, Question, Statement};
-use text::words::Words;
-use text::{name, words};
+use crate::expected::Expected;
+use crate::level;
+use crate::statement::{Delegation, Question, Revocation, Statement};
+use text::name::{Name, is_name};
+use text::words;
 
-pub fn read(text: &[u8]) -> Statement {
-    let w = words::split(text);
-    if w.strange {
-        return statement::wrong(Expected::PlainBytes);
+// What the line says. One of spaces and a comment alone says nothing.
+pub fn read(line: &[u8]) -> Result<Option<Statement>, Expected> {
+    let words = words::split(line)?;
+    match words.as_slice() {
+        [] => Ok(None),
+        [digest, sign, content @ ..] if is(sign, ":") => Ok(Some(certificate(digest, content)?)),
+        [first, others @ ..] => Ok(Some(Statement::Question(question(first, others)?))),
     }
-    if w.many {
-        return statement::wrong(Expected::FewerWords);
-    }
-    if w.count == 0 {
-        return statement::bare(Kind::Nothing);
-    }
-    if same(words::word(text, w, 1), b":") {
-        return certificate(text, w);
-    }
-    question(text, w)
 }
 
-fn certificate(text: &[u8], w: Words) -> Statement {
-    if same(words::word(text, w, 3), b">") {
-        return delegation(text, w);
+fn certificate(digest: &[u8], content: &[&[u8]]) -> Result<Statement, Expected> {
+    match content {
+        [_, verb, ..] if is(verb, ">") => {
+            Ok(Statement::Delegation(delegation(digest, content)?))
+        }
+        [_, verb, ..] if is(verb, "revokes") => {
+            Ok(Statement::Revocation(revocation(digest, content)?))
+        }
+        _ => Err(Expected::Certificate),
     }
-    if same(words::word(text, w, 3), b"revokes") {
-        return revocation(text, w);
-    }
-    statement::wrong(Expected::Certificate)
 }
 
 // NAME : ISSUER > AUDIENCE LEVEL / SUBJECT
-fn delegation(text: &[u8], w: Words) -> Statement {
-    if w.count != 8 {
-        return statement::wrong(Expected::Delegation);
+fn delegation(digest: &[u8], content: &[&[u8]]) -> Result<Delegation, Expected> {
+    let [issuer, _, audience, level, sign, subject] = content else {
+        return Err(Expected::Delegation);
+    };
+    if !is(sign, "/") {
+        return Err(Expected::Delegation);
     }
-    if !same(words::word(text, w, 6), b"/") {
-        return statement::wrong(Expected::Delegation);
+    let power = level::named(level).ok_or(Expected::Level)?;
+    if !are_names(&[digest, issuer, audience, subject]) {
+        return Err(Expected::Delegation);
     }
-    let level = level_byte(words::word(text, w, 5));
-    if level == 0 {
-        return statement::wrong(Expected::Level);
-    }
-    named(
-        text,
-        w,
-        Kind::Delegation,
-        Expected::Delegation,
-        Places(0, 2, 4, 7),
-        level,
-    )
+    Ok(Delegation {
+        digest: name(digest)?,
+        issuer: name(issuer)?,
+        audience: name(audience)?,
+        power,
+        subject: name(subject)?,
+    })
 }
 
 // NAME : ISSUER revokes NAME
-fn revocation(text: &[u8], w: Words) -> Statement {
-    if w.count != 5 {
-        return statement::wrong(Expected::Revocation);
+fn revocation(digest: &[u8], content: &[&[u8]]) -> Result<Revocation, Expected> {
+    let [issuer, _, revoked] = content else {
+        return Err(Expected::Revocation);
+    };
+    if !are_names(&[digest, issuer, revoked]) {
+        return Err(Expected::Revocation);
     }
-    named(
-        text,
-        w,
-        Kind::Revocation,
-        Expected::Revocation,
-        Places(0, 2, 4, 4),
-        0,
-    )
+    Ok(Revocation {
+        digest: name(digest)?,
+        issuer: name(issuer)?,
+        revoked: name(revoked)?,
+    })
 }
 
-// The byte of a level's name, and 0 where no level has it.
-fn level_byte(word: &[u8]) -> u8 {
-    if same(word, b"Relay") {
-        return b'L';
+// Told by comparisons and not by patterns, which the check takes apart byte by byte.
+fn question(first: &[u8], others: &[&[u8]]) -> Result<Question, Expected> {
+    if is(first, "members") {
+        let subject = one(others, Expected::Members)?;
+        return Ok(Question::Members { subject });
     }
-    if same(word, b"Read") {
-        return b'R';
+    if is(first, "power") {
+        let (subject, key) = two(others, Expected::Power)?;
+        return Ok(Question::Power { subject, key });
     }
-    if same(word, b"Edit") {
-        return b'E';
+    if is(first, "positive") {
+        let (subject, key) = two(others, Expected::Positive)?;
+        return Ok(Question::Positive { subject, key });
     }
-    if same(word, b"Admin") {
-        return b'A';
+    if is(first, "live") {
+        let delegation = one(others, Expected::Live)?;
+        return Ok(Question::Live { delegation });
     }
-    0
+    if is(first, "conveys") {
+        let delegation = one(others, Expected::Conveys)?;
+        return Ok(Question::Conveys { delegation });
+    }
+    if is(first, "standing") {
+        let delegation = one(others, Expected::Standing)?;
+        return Ok(Question::Standing { delegation });
+    }
+    list_question(first, others)
 }
 
-fn question(text: &[u8], w: Words) -> Statement {
-    match asked(words::word(text, w, 0), words::word(text, w, 1)) {
-        Form::Unknown => statement::wrong(Expected::Statement),
-        Form::Of(q, first, names) => questioned(text, w, q, first, names),
+// The questions whose answer is a list.
+fn list_question(first: &[u8], others: &[&[u8]]) -> Result<Question, Expected> {
+    if is(first, "closure") {
+        let subject = one(others, Expected::Closure)?;
+        return Ok(Question::Closure { subject });
     }
-}
-
-// A question's names begin at a word, and it has so many of them.
-fn questioned(text: &[u8], w: Words, q: Question, first: usize, names: usize) -> Statement {
-    let wanted = Expected::Asked(q);
-    if first > 2 {
-        return statement::wrong(wanted);
+    if is(first, "graph") {
+        let subject = one(others, Expected::Graph)?;
+        return Ok(Question::Graph { subject });
     }
-    if names > 2 {
-        return statement::wrong(wanted);
+    if is(first, "certificates") {
+        none(others, Expected::Certificates)?;
+        return Ok(Question::Certificates);
     }
-    if w.count != first + names {
-        return statement::wrong(wanted);
+    if is(first, "subjects") {
+        none(others, Expected::Subjects)?;
+        return Ok(Question::Subjects);
     }
-    let kind = Kind::Question(q);
-    if names == 0 {
-        return statement::bare(kind);
-    }
-    let second = first + names - 1;
-    named(
-        text,
-        w,
-        kind,
-        wanted,
-        Places(first, second, second, second),
-        0,
-    )
-}
-
-#[derive(Clone, Copy)]
-enum Form {
-    Unknown,
-    // The question, the place of its first name, and how many names it has.
-    Of(Question, usize, usize),
-}
-
-fn asked(word: &[u8], then: &[u8]) -> Form {
-    if same(word, b"members") {
-        return Form::Of(Question::Members, 1, 1);
-    }
-    if same(word, b"power") {
-        return Form::Of(Question::Power, 1, 2);
-    }
-    if same(word, b"positive") {
-        return Form::Of(Question::Positive, 1, 2);
-    }
-    if same(word, b"live") {
-        return Form::Of(Question::Live, 1, 1);
-    }
-    if same(word, b"conveys") {
-        return Form::Of(Question::Conveys, 1, 1);
-    }
-    if same(word, b"standing") {
-        return Form::Of(Question::Standing, 1, 1);
-    }
-    if same(word, b"closure") {
-        return Form::Of(Question::Closure, 1, 1);
-    }
-    asked_list(word, then)
-}
-
-fn asked_list(word: &[u8], then: &[u8]) -> Form {
-    if same(word, b"certificates") {
-        return Form::Of(Question::Certificates, 1, 0);
-    }
-    if same(word, b"subjects") {
-        return Form::Of(Question::Subjects, 1, 0);
-    }
-    if same(word, b"graph") {
-        return Form::Of(Question::Graph, 1, 1);
-    }
-    if same(word, b"revocations") {
-        if same(then, b"of") {
-            return Form::Of(Question::RevocationsOf, 2, 1);
-        }
-    }
-    if same(word, b"delegations") {
-        if same(then, b"to") {
-            return Form::Of(Question::DelegationsTo, 2, 2);
-        }
-    }
-    Form::Unknown
-}
-
-// Which words are a statement's names.
-#[derive(Clone, Copy)]
-struct Places(usize, usize, usize, usize);
-
-// The statement with its names, or why one of them is none.
-fn named(text: &[u8], w: Words, kind: Kind, wanted: Expected, at: Places, level: u8) -> Statement {
-    let a = words::word(text, w, at.0);
-    let b = words::word(text, w, at.1);
-    let c = words::word(text, w, at.2);
-    let d = words::word(text, w, at.3);
-    if !(name::is_name(a) & name::is_name(b) & name::is_name(c) & name::is_name(d)) {
-        return statement::wrong(wanted);
-    }
-    if !(is_short(a) & is_short(b) & is_short(c) & is_short(d)) {
-        return statement::wrong(Expected::ShortName);
-    }
-    Statement {
-        kind,
-        first: name::bytes(a),
-        second: name::bytes(b),
-        third: name::bytes(c),
-        fourth: name::bytes(d),
-        level,
+    match others {
+        [second, names @ ..] => pair_question(first, second, names),
+        [] => Err(Expected::Statement),
     }
 }
 
-fn is_short(word: &[u8]) -> bool {
-    word.len() <= name::NAME_LENGTH
+// The questions that two words begin.
+fn pair_question(first: &[u8], second: &[u8], names: &[&[u8]]) -> Result<Question, Expected> {
+    if is(first, "revocations") && is(second, "of") {
+        let certificate = one(names, Expected::RevocationsOf)?;
+        return Ok(Question::RevocationsOf { certificate });
+    }
+    if is(first, "delegations") && is(second, "to") {
+        let (subject, audience) = two(names, Expected::DelegationsTo)?;
+        return Ok(Question::DelegationsTo { subject, audience });
+    }
+    Err(Expected::Statement)
 }
 
-// Whether the word is this one.
-fn same(word: &[u8], other: &[u8]) -> bool {
-    word == other
+fn is(word: &[u8], text: &'static str) -> bool {
+    word == text.as_bytes()
+}
+
+fn none(words: &[&[u8]], wanted: Expected) -> Result<(), Expected> {
+    if words.is_empty() {
+        Ok(())
+    } else {
+        Err(wanted)
+    }
+}
+
+// The one name that the words are, or else what is wanted of them.
+fn one(words: &[&[u8]], wanted: Expected) -> Result<Name, Expected> {
+    match words {
+        [word] if are_names(words) => name(word),
+        _ => Err(wanted),
+    }
+}
+
+fn two(words: &[&[u8]], wanted: Expected) -> Result<(Name, Name), Expected> {
+    match words {
+        [first, second] if are_names(words) => Ok((name(first)?, name(second)?)),
+        _ => Err(wanted),
+    }
+}
+
+fn are_names(words: &[&[u8]]) -> bool {
+    words.iter().all(|word| is_name(word))
+}
+
+// The name that a word is, which only its length can forbid.
+fn name(word: &[u8]) -> Result<Name, Expected> {
+    Name::new(word).ok_or(Expected::ShortName)
 }

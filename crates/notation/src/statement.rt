@@ -1,71 +1,44 @@
-// What a line says: a certificate, a question, nothing, or why it is wrong. The names that it has are 32 bytes each, in the order of the
-// line, and all zeros where the line has fewer.
-use keyline::limits::KEY_LENGTH;
+// What a line says: a certificate or a question, each with the names that it has.
+use power_levels::power::Power;
+use text::name::Name;
 
 #[derive(Clone, Copy)]
-pub enum Kind {
-    Nothing,
-    // Digest, issuer, audience, subject, and the level's byte.
-    Delegation,
-    // Digest, issuer, the digest that is revoked.
-    Revocation,
+pub enum Statement {
+    Delegation(Delegation),
+    Revocation(Revocation),
     Question(Question),
-    Wrong(Expected),
+}
+
+// NAME : ISSUER > AUDIENCE LEVEL / SUBJECT
+#[derive(Clone, Copy)]
+pub struct Delegation {
+    pub digest: Name,
+    pub issuer: Name,
+    pub audience: Name,
+    pub power: Power,
+    pub subject: Name,
+}
+
+// NAME : ISSUER revokes NAME
+#[derive(Clone, Copy)]
+pub struct Revocation {
+    pub digest: Name,
+    pub issuer: Name,
+    pub revoked: Name,
 }
 
 #[derive(Clone, Copy)]
 pub enum Question {
-    Members,
-    Power,
-    Positive,
-    Live,
-    Conveys,
-    Standing,
-    Closure,
-    RevocationsOf,
-    DelegationsTo,
+    Members { subject: Name },
+    Power { subject: Name, key: Name },
+    Positive { subject: Name, key: Name },
+    Live { delegation: Name },
+    Conveys { delegation: Name },
+    Standing { delegation: Name },
+    Closure { subject: Name },
+    RevocationsOf { certificate: Name },
+    DelegationsTo { subject: Name, audience: Name },
     Certificates,
     Subjects,
-    Graph,
-}
-
-// What a wrong line ought to have had.
-#[derive(Clone, Copy)]
-pub enum Expected {
-    ShortLine,
-    PlainBytes,
-    FewerWords,
-    Statement,
-    Certificate,
-    Delegation,
-    Revocation,
-    Level,
-    ShortName,
-    Asked(Question),
-}
-
-#[derive(Clone, Copy)]
-pub struct Statement {
-    pub kind: Kind,
-    pub first: [u8; KEY_LENGTH],
-    pub second: [u8; KEY_LENGTH],
-    pub third: [u8; KEY_LENGTH],
-    pub fourth: [u8; KEY_LENGTH],
-    pub level: u8,
-}
-
-// A statement with no names.
-pub fn bare(kind: Kind) -> Statement {
-    Statement {
-        kind,
-        first: [0; KEY_LENGTH],
-        second: [0; KEY_LENGTH],
-        third: [0; KEY_LENGTH],
-        fourth: [0; KEY_LENGTH],
-        level: 0,
-    }
-}
-
-pub fn wrong(expected: Expected) -> Statement {
-    bare(Kind::Wrong(expected))
+    Graph { subject: Name },
 }

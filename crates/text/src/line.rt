@@ -1,57 +1,51 @@
-// A line as it comes in, in as many parts as the reads make of it. Text of any length goes through one such buffer; a line that does not
-// fit says so and is not cut.
-ghost use Rattle.std.specs.Prelude.{◌≤◌, length};
+// A line as it comes in, in as many parts as the reads make of it. A line that does not fit says so, and is neither cut nor gathered whole.
+ghost use Rattle.std.specs.Prelude.{◌≡◌, ◌∷◌, ◌++◌, ◌≤◌, length, IfOk, IfSome};
+
+use arrayvec::ArrayVec;
 
 pub const LINE_LENGTH: usize = 256;
 
-#[derive(Clone, Copy)]
+const LINE_END: u8 = b'\n';
+
+// More bytes came than fit.
+#[derive(Clone, Copy, Debug, PartialEq, Eq)]
+pub struct TooLong;
+
+#[derive(Drop)]
 pub struct Line {
-    pub bytes: [u8; LINE_LENGTH],
-    pub length: usize,
-    // More bytes came than fit.
-    pub over: bool,
+    bytes: Result<ArrayVec<u8, LINE_LENGTH>, TooLong>,
 }
 
-pub fn empty() -> Line {
-    Line {
-        bytes: [0; LINE_LENGTH],
-        length: 0,
-        over: false,
-    }
-}
-
-// The line with more bytes behind it, all of them or none.
-pub fn append(line: Line, more: &[u8]) -> Line {
-    let at = line.length;
-    let mut bytes = line.bytes;
-    if at <= LINE_LENGTH {
-        if more.len() <= LINE_LENGTH - at {
-            lent::bytes::put_at(&mut bytes, at, more);
-            return Line {
-                bytes,
-                length: at + more.len(),
-                over: line.over,
-            };
+impl Line {
+    pub fn new() -> Self {
+        Line {
+            bytes: Ok(ArrayVec::new()),
         }
     }
-    Line {
-        bytes,
-        length: at,
-        over: true,
+
+    // More bytes of the line, all of them or none.
+    pub fn append(&mut self, more: &[u8]) {
+        if let Ok(bytes) = &mut self.bytes
+            && bytes.try_extend_from_slice(more).is_err()
+        {
+            self.bytes = Err(TooLong);
+        }
+    }
+
+    pub fn bytes(&self) -> Result<&[u8], TooLong>
+        ensures { IfOk result (λ bytes. length bytes.now ≤ LINE_LENGTH) }
+    {
+        match &self.bytes {
+            Ok(bytes) => Ok(bytes.as_slice()),
+            Err(why) => Err(*why),
+        }
     }
 }
 
-// Where the line that goes on at a place of the text ends: at the next line end, or with the text.
-pub fn stop(text: &[u8], from: usize) -> usize
-    requires { from ≤ length text.now }
-    ensures { (from ≤ result) × (result ≤ length text.now) }
+// What of a text stands before its first line end, and what stands behind it.
+pub fn split_at_end(text: &[u8]) -> Option<(&[u8], &[u8])>
+    ensures { IfSome result (λ parts. text.now ≡ parts.0.now ++ LINE_END ∷ parts.1.now) }
 {
-    let mut i = from;
-    while i < text.len() {
-        if text[i] == b'\n' {
-            return i;
-        }
-        i += 1;
-    }
-    i
+    let end = text.iter().position(|b| *b == LINE_END)?;
+    Some((&text[..end], &text[end + 1..]))
 }

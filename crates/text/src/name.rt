@@ -6,33 +6,40 @@ use keyline::limits::KEY_LENGTH;
 // One byte fewer than a key or a digest has.
 pub const NAME_LENGTH: usize = KEY_LENGTH - 1;
 
-pub fn is_name(word: &[u8]) -> bool {
-    if word.len() == 0 {
-        return false;
-    }
-    !words::is_sign(word[0])
-}
+#[derive(Clone, Copy, Debug, PartialEq, Eq)]
+pub struct Name([u8; KEY_LENGTH]);
 
-// The bytes that a name of at most 31 stands for.
-pub fn bytes(word: &[u8]) -> [u8; KEY_LENGTH] {
-    let mut out = [0; KEY_LENGTH];
-    lent::bytes::put_at(&mut out, 0, word);
-    out
-}
-
-// The name that 32 bytes stand for.
-pub fn name(key: &[u8]) -> &[u8] {
-    words::part(key, 0, length(key))
-}
-
-// How many bytes stand before the first zero.
-pub fn length(key: &[u8]) -> usize {
-    let mut i = 0;
-    while i < key.len() {
-        if key[i] == 0 {
-            return i;
+impl Name {
+    // The name that a word is, or None where it is longer than a name may be.
+    pub fn new(word: &[u8]) -> Option<Self> {
+        if word.len() > NAME_LENGTH {
+            return None;
         }
-        i += 1;
+        let mut key = [0; KEY_LENGTH];
+        key[..word.len()].copy_from_slice(word);
+        Some(Name(key))
     }
-    i
+
+    // The key or the digest that the name stands for.
+    pub fn key(&self) -> &[u8; KEY_LENGTH] {
+        &self.0
+    }
+
+    // The name as it is written: what stands before the first zero.
+    pub fn text(&self) -> &[u8] {
+        let key = self.0.as_slice();
+        key.split(|b| *b == 0).next().unwrap_or(key)
+    }
+}
+
+// The name that stands for a key or a digest.
+impl From<[u8; KEY_LENGTH]> for Name {
+    fn from(key: [u8; KEY_LENGTH]) -> Self {
+        Name(key)
+    }
+}
+
+// Whether a word can be a name: every word but a sign.
+pub fn is_name(word: &[u8]) -> bool {
+    word.first().is_some_and(|first| !words::is_sign(*first))
 }

@@ -1,9 +1,0 @@
--- `edge_lines` ends: what is left of the list falls. The store and its evaluation stay the ones that came in.
-use Prim.Native.Nat.{◌-◌}
-use Rattle.ask.proofs.graph.edge_lines.Given as goal
-
-abbrev pub invariant-loop-i : goal.invariant-loop-i
-invariant-loop-i l = Unit {0}
-
-abbrev pub decreases-loop-i : goal.decreases-loop-i
-decreases-loop-i l = l.end - l.i

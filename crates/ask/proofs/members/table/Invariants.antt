@@ -1,9 +1,0 @@
--- `table` ends: what is left of the list falls.
-use Prim.Native.Nat.{◌-◌}
-use Rattle.ask.proofs.members.table.Given as goal
-
-abbrev pub invariant-loop-i : goal.invariant-loop-i
-invariant-loop-i l = Unit {0}
-
-abbrev pub decreases-loop-i : goal.decreases-loop-i
-decreases-loop-i l = l.n - l.i
