@@ -8,11 +8,11 @@ ghost use Rattle.tables.specs.Insertion.{read_rank, is_added, settled, delegatio
 ghost use Rattle.store.specs.Store.{committed};
 
 use keyline::limits::KEY_LENGTH;
+use keyline::refusal::Refusal;
 use places::{DelegationPlace, KeyPlace, RevocationPlace};
 use runs::table;
 use runs::table::{LARGE_LIMIT, SMALL_LIMIT};
 use store::Store;
-use keyline::refusal::Refusal;
 use tables::answer::{Outcome, is_added};
 
 // The rank of a payload's power.

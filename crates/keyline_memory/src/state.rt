@@ -98,7 +98,12 @@ impl State {
     }
 
     // The issuer and the payload of the delegation with that digest, in two lent buffers.
-    pub fn delegation(&self, digest: &[u8], issuer: &mut [u8], payload: &mut [u8]) -> Result<Option<usize>, Refusal>
+    pub fn delegation(
+        &self,
+        digest: &[u8],
+        issuer: &mut [u8],
+        payload: &mut [u8],
+    ) -> Result<Option<usize>, Refusal>
         ensures answer { result ≡ look.delegation_lookup (held_in self.now) digest.now (length issuer.old) (length payload.old) }
         ensures issuer { issuer.new ≡ part_buffer result (delegation_with (held_in self.now) digest.now).issuer issuer.old }
         ensures payload { payload.new ≡ part_buffer result (payload_of (delegation_with (held_in self.now) digest.now)) payload.old }
@@ -107,7 +112,12 @@ impl State {
     }
 
     // The issuer and the revoked digest of the revocation with that digest, in two lent buffers.
-    pub fn revocation(&self, digest: &[u8], issuer: &mut [u8], revoked: &mut [u8]) -> Result<Option<usize>, Refusal>
+    pub fn revocation(
+        &self,
+        digest: &[u8],
+        issuer: &mut [u8],
+        revoked: &mut [u8],
+    ) -> Result<Option<usize>, Refusal>
         ensures answer { result ≡ look.revocation_lookup (held_in self.now) digest.now (length issuer.old) (length revoked.old) }
         ensures issuer { issuer.new ≡ part_buffer result (revocation_with (held_in self.now) digest.now).issuer issuer.old }
         ensures revoked { revoked.new ≡ part_buffer result (revocation_with (held_in self.now) digest.now).revoked revoked.old }
@@ -140,7 +150,12 @@ impl State {
     }
 
     // The held delegations with that subject and audience.
-    pub fn delegations_to(&self, subject: &[u8], audience: &[u8], out: &mut [u8]) -> Result<usize, Refusal>
+    pub fn delegations_to(
+        &self,
+        subject: &[u8],
+        audience: &[u8],
+        out: &mut [u8],
+    ) -> Result<usize, Refusal>
         ensures answer { result ≡ length_first subject.now (length_first audience.now (list_answer (delegations_to (held_in self.now) subject.now audience.now) (length out.old))) }
         ensures out { out.new ≡ list_buffer result (delegations_to (held_in self.now) subject.now audience.now) out.old }
     {

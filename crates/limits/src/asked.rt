@@ -8,8 +8,7 @@ use queries::evaluated::Evaluated;
 use std::io;
 
 // Whether a certificate of either kind has the digest.
-pub(crate) fn contains(rt: &impl Print, s: &State, digest: &Argument) -> io::Result<()>
-{
+pub(crate) fn contains(rt: &impl Print, s: &State, digest: &Argument) -> io::Result<()> {
     let delegation = contained(s.contains_delegation(digest.as_slice()));
     let revocation = contained(s.contains_revocation(digest.as_slice()));
     println!(rt; "  contains_delegation {digest}: {delegation}")?;

@@ -35,8 +35,7 @@ fn in_small(rt: &impl Print) -> io::Result<()> {
 }
 
 // All of the keys are subjects.
-fn in_full(rt: &impl Print, s: &State) -> io::Result<()>
-{
+fn in_full(rt: &impl Print, s: &State) -> io::Result<()> {
     println!(rt; "64 keys, 128 delegations, 64 revocations")?;
     for room in [2047, 2048] {
         lists_of::subjects(rt, s, room)?;
@@ -75,8 +74,7 @@ fn in_star(rt: &impl Print) -> io::Result<()> {
 }
 
 // The set is the full one.
-pub(crate) fn cases(rt: &impl Print, s: &State) -> io::Result<()>
-{
+pub(crate) fn cases(rt: &impl Print, s: &State) -> io::Result<()> {
     in_small(rt)?;
     in_full(rt, s)?;
     in_long(rt)?;

@@ -98,8 +98,7 @@ impl Certificate {
     }
 
     // Puts it into the set, each argument at the length given.
-    pub(crate) fn insert(self, s: &mut State, lengths: [usize; 3]) -> Answered
-    {
+    pub(crate) fn insert(self, s: &mut State, lengths: [usize; 3]) -> Answered {
         let [digest, issuer, length] = lengths;
         let digest = Argument::of(self.digest, digest);
         let issuer = Argument::of(self.issuer, issuer);
@@ -122,8 +121,7 @@ impl Certificate {
         length: usize,
         issuer: &mut [u8],
         other: &mut [u8],
-    ) -> Answered
-    {
+    ) -> Answered {
         let digest = Argument::of(self.digest, length);
         answered::looked(match self.content {
             Content::Delegation { .. } => s.delegation(digest.as_slice(), issuer, other),

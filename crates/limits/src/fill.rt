@@ -38,8 +38,7 @@ impl Kind {
 }
 
 // Puts the certificates with those numbers into the set.
-pub(crate) fn fill(s: &mut State, kind: Kind, numbers: Range<u8>)
-{
+pub(crate) fn fill(s: &mut State, kind: Kind, numbers: Range<u8>) {
     for n in numbers {
         let certificate = kind.certificate(n);
         certificate.insert(s, certificate.lengths());
@@ -47,16 +46,14 @@ pub(crate) fn fill(s: &mut State, kind: Kind, numbers: Range<u8>)
 }
 
 // The first n of the kind, in a new set.
-pub(crate) fn only(kind: Kind, n: u8) -> State
-{
+pub(crate) fn only(kind: Kind, n: u8) -> State {
     let mut s = State::new();
     fill(&mut s, kind, 0..n);
     s
 }
 
 // 64 keys, 128 delegations and 64 revocations.
-pub(crate) fn full() -> State
-{
+pub(crate) fn full() -> State {
     let mut s = only(Kind::Ring, 128);
     fill(&mut s, Kind::Each, 0..64);
     s

@@ -73,8 +73,7 @@ fn revocations_and_keys(rt: &impl Print) -> io::Result<()> {
 }
 
 // Nothing more is added; what is held is known by its content, and other content is a conflict, with new keys too.
-fn everything(rt: &impl Print, s: &State) -> io::Result<()>
-{
+fn everything(rt: &impl Print, s: &State) -> io::Result<()> {
     println!(rt; "64 revocations, 128 delegations, 64 keys")?;
     let certificates = [
         reading(0, 0, 1, 0),
@@ -92,8 +91,7 @@ fn everything(rt: &impl Print, s: &State) -> io::Result<()>
 }
 
 // The set is the full one.
-pub(crate) fn cases(rt: &impl Print, s: &State) -> io::Result<()>
-{
+pub(crate) fn cases(rt: &impl Print, s: &State) -> io::Result<()> {
     delegations(rt)?;
     revocations(rt)?;
     delegations_and_keys(rt)?;

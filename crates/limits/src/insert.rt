@@ -6,23 +6,20 @@ use keyline_memory::state::State;
 use std::io;
 
 // Without a line.
-pub(crate) fn all(s: &mut State, certificates: &[Certificate])
-{
+pub(crate) fn all(s: &mut State, certificates: &[Certificate]) {
     for certificate in certificates {
         certificate.insert(s, certificate.lengths());
     }
 }
 
 // Behind what was inserted: the answer, and what the set counts after it.
-pub(crate) fn outcome(rt: &impl Print, answer: Answered, s: &State) -> io::Result<()>
-{
+pub(crate) fn outcome(rt: &impl Print, answer: Answered, s: &State) -> io::Result<()> {
     let len = s.len();
     let version = s.version();
     println!(rt; ": {answer}, len {len}, version {version}")
 }
 
-fn one(rt: &impl Print, s: &mut State, certificate: &Certificate) -> io::Result<()>
-{
+fn one(rt: &impl Print, s: &mut State, certificate: &Certificate) -> io::Result<()> {
     print!(rt; "  {certificate}")?;
     let answer = certificate.insert(s, certificate.lengths());
     outcome(rt, answer, s)
@@ -33,8 +30,7 @@ pub(crate) fn in_turn(
     rt: &impl Print,
     s: &mut State,
     certificates: &[Certificate],
-) -> io::Result<()>
-{
+) -> io::Result<()> {
     for certificate in certificates {
         one(rt, s, certificate)?;
     }
@@ -42,8 +38,7 @@ pub(crate) fn in_turn(
 }
 
 // Each into the same set, which is left as it was.
-pub(crate) fn each(rt: &impl Print, s: &State, certificates: &[Certificate]) -> io::Result<()>
-{
+pub(crate) fn each(rt: &impl Print, s: &State, certificates: &[Certificate]) -> io::Result<()> {
     for certificate in certificates {
         let mut after = *s;
         one(rt, &mut after, certificate)?;

@@ -85,8 +85,7 @@ fn insertions(
     s: &State,
     certificate: &Certificate,
     lengths: &[[usize; 3]],
-) -> io::Result<()>
-{
+) -> io::Result<()> {
     let kind = certificate.content.kind();
     for [digest, issuer, third] in lengths {
         let mut after = *s;
@@ -97,8 +96,7 @@ fn insertions(
     Ok(())
 }
 
-fn questions(rt: &impl Print, s: &State) -> io::Result<()>
-{
+fn questions(rt: &impl Print, s: &State) -> io::Result<()> {
     for (digest, length) in [(10, 0), (10, 31), (10, 33), (10, 32), (20, 32)] {
         asked::contains(rt, s, &Argument::of(digest, length))?;
     }
@@ -120,8 +118,7 @@ fn questions(rt: &impl Print, s: &State) -> io::Result<()>
 }
 
 // With room for nothing, and with room for all.
-fn into_room(rt: &impl Print, s: &State, room: usize) -> io::Result<()>
-{
+fn into_room(rt: &impl Print, s: &State, room: usize) -> io::Result<()> {
     for certificate in [small::edit(), revocation(20, 8, 11)] {
         for length in WRONG {
             parts::look(rt, s, &certificate, length, (room, room))?;
@@ -151,8 +148,7 @@ fn evaluated_into_room(rt: &impl Print, e: &Evaluated, room: usize) -> io::Resul
 }
 
 // The set is the full one.
-pub(crate) fn cases(rt: &impl Print, s: &State) -> io::Result<()>
-{
+pub(crate) fn cases(rt: &impl Print, s: &State) -> io::Result<()> {
     println!(rt; "lengths in the full set")?;
     insertions(rt, s, &delegation(), &DELEGATIONS_WHEN_FULL)?;
     insertions(rt, s, &revocation(40, 1, 41), &REVOCATIONS_WHEN_FULL)?;

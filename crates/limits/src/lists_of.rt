@@ -37,14 +37,12 @@ fn items(rt: &impl Print, space: &[u8], count: usize) -> io::Result<()> {
     print!(rt; ", items{}", Items { space, count })
 }
 
-pub(crate) fn subjects(rt: &impl Print, s: &State, room: usize) -> io::Result<()>
-{
+pub(crate) fn subjects(rt: &impl Print, s: &State, room: usize) -> io::Result<()> {
     print!(rt; "  subjects")?;
     into_room(rt, room, |out| answered::listed(s.subjects(out)))
 }
 
-pub(crate) fn certificates(rt: &impl Print, s: &State, room: usize) -> io::Result<()>
-{
+pub(crate) fn certificates(rt: &impl Print, s: &State, room: usize) -> io::Result<()> {
     print!(rt; "  certificates")?;
     into_room(rt, room, |out| answered::both_listed(s.certificates(out)))
 }
@@ -54,8 +52,7 @@ pub(crate) fn revocations_of(
     s: &State,
     target: &Argument,
     room: usize,
-) -> io::Result<()>
-{
+) -> io::Result<()> {
     print!(rt; "  revocations_of {target}")?;
     into_room(rt, room, |out| {
         answered::listed(s.revocations_of(target.as_slice(), out))
@@ -68,8 +65,7 @@ pub(crate) fn delegations_to(
     subject: &Argument,
     audience: &Argument,
     room: usize,
-) -> io::Result<()>
-{
+) -> io::Result<()> {
     print!(rt; "  delegations_to {subject} {audience}")?;
     into_room(rt, room, |out| {
         answered::listed(s.delegations_to(subject.as_slice(), audience.as_slice(), out))

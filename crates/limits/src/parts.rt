@@ -19,8 +19,7 @@ pub(crate) fn look(
     certificate: &Certificate,
     length: usize,
     rooms: (usize, usize),
-) -> io::Result<()>
-{
+) -> io::Result<()> {
     let (room, other_room) = rooms;
     let mut issuer = [BEFORE; SPACE];
     let mut other = [BEFORE; SPACE];

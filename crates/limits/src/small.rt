@@ -15,8 +15,7 @@ pub(crate) fn cited() -> Certificate {
     delegation(11, 2, 3, 1, b'A', Some(77))
 }
 
-pub(crate) fn set() -> State
-{
+pub(crate) fn set() -> State {
     let mut s = State::new();
     let certificates = [
         reading(15, 1, 3, 1),

@@ -26,8 +26,7 @@ fn powers(rt: &impl Print, e: &Evaluated, keys: &[(u8, u8)]) -> io::Result<()>
 }
 
 // No key and no digest 200 is held or named.
-fn all(rt: &impl Print, s: &State, room: usize) -> io::Result<()>
-{
+fn all(rt: &impl Print, s: &State, room: usize) -> io::Result<()> {
     let unheld = Argument::whole(200);
     asked::contains(rt, s, &unheld)?;
     for certificate in [reading(200, 1, 2, 1), revocation(200, 1, 11)] {
@@ -50,8 +49,7 @@ fn all(rt: &impl Print, s: &State, room: usize) -> io::Result<()>
     lists_of::members(rt, &e, &unheld, (room, room))
 }
 
-fn counts(rt: &impl Print, s: &State) -> io::Result<()>
-{
+fn counts(rt: &impl Print, s: &State) -> io::Result<()> {
     let len = s.len();
     let is_empty = u8::from(s.is_empty());
     let version = s.version();

@@ -17,7 +17,13 @@ pub fn certificates(store: &Store, out: &mut [u8]) -> Result<Counts, Refusal>
     let c = runs::list::choose(&store.delegations.digests, DELEGATION_LIMIT, n, &on);
     let m = store.revocations.count;
     let d = runs::list::choose(&store.revocations.digests, REVOCATION_LIMIT, m, &on);
-    crate::write::write_both(&store.delegations.digests, &store.revocations.digests, c, d, out)
+    crate::write::write_both(
+        &store.delegations.digests,
+        &store.revocations.digests,
+        c,
+        d,
+        out,
+    )
 }
 
 // The subjects of held delegations.
@@ -45,7 +51,12 @@ pub fn revocations_of(store: &Store, target: &[u8], out: &mut [u8]) -> Result<us
 }
 
 // The held delegations with that subject and audience.
-pub fn delegations_to(store: &Store, subject: &[u8], audience: &[u8], out: &mut [u8]) -> Result<usize, Refusal>
+pub fn delegations_to(
+    store: &Store,
+    subject: &[u8],
+    audience: &[u8],
+    out: &mut [u8],
+) -> Result<usize, Refusal>
     ensures { (result ≡ length_first subject.now (length_first audience.now (list_answer (delegations_to (committed store.now) subject.now audience.now) (length out.old)))) × (out.new ≡ list_buffer result (delegations_to (committed store.now) subject.now audience.now) out.old) }
 {
     if subject.len() != KEY_LENGTH {
@@ -58,7 +69,13 @@ pub fn delegations_to(store: &Store, subject: &[u8], audience: &[u8], out: &mut 
     let i = tables::keys::find(&store.keys.table, m, subject);
     let j = tables::keys::find(&store.keys.table, m, audience);
     let n = store.delegations.count;
-    let on = crate::mark::between(&store.delegations.subject, &store.delegations.audience, n, i, j);
+    let on = crate::mark::between(
+        &store.delegations.subject,
+        &store.delegations.audience,
+        n,
+        i,
+        j,
+    );
     let c = runs::list::choose(&store.delegations.digests, DELEGATION_LIMIT, n, &on);
     crate::write::write_one(&store.delegations.digests, c, out)
 }

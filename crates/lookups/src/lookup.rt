@@ -31,7 +31,12 @@ pub fn contains_revocation(store: &Store, digest: &[u8]) -> Result<bool, Refusal
 }
 
 // The issuer and the payload of the delegation with that digest, in two lent buffers.
-pub fn delegation(store: &Store, digest: &[u8], issuer: &mut [u8], payload: &mut [u8]) -> Result<Option<usize>, Refusal>
+pub fn delegation(
+    store: &Store,
+    digest: &[u8],
+    issuer: &mut [u8],
+    payload: &mut [u8],
+) -> Result<Option<usize>, Refusal>
     ensures { (result ≡ delegation_lookup (committed store.now) digest.now (length issuer.old) (length payload.old)) × (issuer.new ≡ part_buffer result (delegation_with (committed store.now) digest.now).issuer issuer.old) × (payload.new ≡ part_buffer result (payload_of (delegation_with (committed store.now) digest.now)) payload.old) }
 {
     if digest.len() != DIGEST_LENGTH {
@@ -61,7 +66,12 @@ pub fn delegation(store: &Store, digest: &[u8], issuer: &mut [u8], payload: &mut
 }
 
 // The issuer and the revoked digest of the revocation with that digest, in two lent buffers.
-pub fn revocation(store: &Store, digest: &[u8], issuer: &mut [u8], revoked: &mut [u8]) -> Result<Option<usize>, Refusal>
+pub fn revocation(
+    store: &Store,
+    digest: &[u8],
+    issuer: &mut [u8],
+    revoked: &mut [u8],
+) -> Result<Option<usize>, Refusal>
     ensures { (result ≡ revocation_lookup (committed store.now) digest.now (length issuer.old) (length revoked.old)) × (issuer.new ≡ part_buffer result (revocation_with (committed store.now) digest.now).issuer issuer.old) × (revoked.new ≡ part_buffer result (revocation_with (committed store.now) digest.now).revoked revoked.old) }
 {
     if digest.len() != DIGEST_LENGTH {

@@ -58,7 +58,12 @@ pub(crate) fn cases(rt: &impl Print) -> io::Result<()> {
 }
 
 // The answer, whether the bytes at the front are the sample's, and how many bytes were left as they were.
-fn written(rt: &impl Print, answer: Result<usize, Refusal>, sample: &Sample, space: &[u8]) -> io::Result<()> {
+fn written(
+    rt: &impl Print,
+    answer: Result<usize, Refusal>,
+    sample: &Sample,
+    space: &[u8],
+) -> io::Result<()> {
     match answer {
         Ok(n) => {
             let same = space.starts_with(sample.part(0, n));

@@ -67,8 +67,7 @@ impl<'a> Said<'a> {
                 usize::from(why.number()) == number && why.beside() == beside
             }
             (Ok((power, cited)), Said::Accepted(letter, citation)) => {
-                letter == [power.byte()].as_slice()
-                    && citation.is_some() == cited
+                letter == [power.byte()].as_slice() && citation.is_some() == cited
             }
             _ => false,
         }

@@ -105,7 +105,7 @@ module _ (s o₀ o : Bytes) (state : State) (evaluated : Evaluated) (at done : �
       let c = i.within in
       let p : length (put_mid done (needs q) o y) ≡ length o = same_length done (needs q) o y (omega arith) n in
       record {
-          worked_out = w;
+        worked_out = w;
         within = omega arith;
         long = p ∙ i.long;
         room = omega arith;

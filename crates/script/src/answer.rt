@@ -8,9 +8,9 @@ ghost use Rattle.wire.specs.Request.{Asked, other_limit, first_part, second_part
 ghost use Rattle.script.specs.Run.{room_in, zeros, inPlace, StateReplied, EvaluatedReplied};
 
 use crate::ask;
+use keyline::refusal::Refusal;
 use keyline_memory::state::State;
 use queries::evaluated::Evaluated;
-use keyline::refusal::Refusal;
 use tables::answer::Outcome;
 use wire::operation::{OfEvaluated, OfState};
 use wire::reply;
@@ -46,13 +46,7 @@ fn state_in(
     put(out, room, r, other);
 }
 
-pub fn answer_state(
-    state: &State,
-    asked: OfState,
-    q: Request,
-    script: &[u8],
-    out: &mut [u8],
-)
+pub fn answer_state(state: &State, asked: OfState, q: Request, script: &[u8], out: &mut [u8])
     requires { Asked q script.now out.old }
     ensures { StateReplied (held_in state.now) (first_part script.now) (second_part script.now) (room_in q.room out.old) (zeros q.other) asked out.new }
 {

@@ -16,11 +16,7 @@ use wire::reply::Reply;
 use wire::request::{HEADER, Request};
 
 // The insertions, with the request's arguments.
-pub fn insert_delegation(
-    state: &mut State,
-    q: Request,
-    script: &[u8],
-) -> Result<Outcome, Refusal>
+pub fn insert_delegation(state: &mut State, q: Request, script: &[u8]) -> Result<Outcome, Refusal>
     requires { (q ≡ request_of script.now) × (length_of q ≤ length script.now) }
     ensures { Insertion state.old state.new result (delegation_answer (held_in state.old) (first_part script.now) (second_part script.now) (third_part script.now)) (delegation_added (held_in state.old) (first_part script.now) (second_part script.now) (third_part script.now)) }
 {
@@ -30,11 +26,7 @@ pub fn insert_delegation(
     state.insert_delegation(&script[HEADER..a], &script[a..b], &script[b..c])
 }
 
-pub fn insert_revocation(
-    state: &mut State,
-    q: Request,
-    script: &[u8],
-) -> Result<Outcome, Refusal>
+pub fn insert_revocation(state: &mut State, q: Request, script: &[u8]) -> Result<Outcome, Refusal>
     requires { (q ≡ request_of script.now) × (length_of q ≤ length script.now) }
     ensures { Insertion state.old state.new result (revocation_answer (held_in state.old) (first_part script.now) (second_part script.now) (third_part script.now)) (revocation_added (held_in state.old) (first_part script.now) (second_part script.now) (third_part script.now)) }
 {
