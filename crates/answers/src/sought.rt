@@ -53,7 +53,11 @@ pub fn seek_key(table: &[u8], n: usize, subject: &[u8]) -> Result<Option<KeyPlac
     Ok(Some(s))
 }
 
-pub fn seek_delegation(digests: &[u8], n: usize, digest: &[u8]) -> Result<Option<DelegationPlace>, Refusal>
+pub fn seek_delegation(
+    digests: &[u8],
+    n: usize,
+    digest: &[u8],
+) -> Result<Option<DelegationPlace>, Refusal>
     requires { GoodRuns delegation_limit digests.now n }
     ensures { DelegationOf digests.now n digest.now result }
 {

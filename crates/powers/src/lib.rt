@@ -7,8 +7,8 @@ ghost use Rattle.answers.specs.Sought.{PairOf, DelegationOf};
 ghost use Rattle.store.specs.Store.{committed};
 ghost use Rattle.powers.specs.EvaluationOf.{EvaluationOf};
 
-use answers::sought::Pair;
 use answers::answer;
+use answers::sought::Pair;
 use evaluation::Evaluation;
 use keyline::refusal::Refusal;
 use places::DelegationPlace;

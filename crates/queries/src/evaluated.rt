@@ -142,7 +142,12 @@ impl Evaluated {
     }
 
     // The members of the subject, ascending: keys in one buffer, power bytes in another. The count comes from ones.
-    pub fn members(&self, subject: &[u8], keys: &mut [u8], powers: &mut [u8]) -> Result<usize, Refusal>
+    pub fn members(
+        &self,
+        subject: &[u8],
+        keys: &mut [u8],
+        powers: &mut [u8],
+    ) -> Result<usize, Refusal>
         requires { GoodEvaluated self.now }
         ensures { MembersAnswer (held_by self.now) subject.now keys.old powers.old result keys.new powers.new }
     {
