@@ -1,5 +1,5 @@
 -- `effective_power` meets its contract: what was sought settles the case, and the evaluation's answer at places is the one over bytes.
-use mathlib.Core.Path.{sym, subst, ap, ◌∙◌}
+use mathlib.Core.Path.{subst, ap, ◌∙◌}
 use Rattle.std.specs.Prelude.{Ok}
 use mathlib.Core.Option.{some}
 use native.Mathlib.Omega.{arith}

@@ -1,5 +1,4 @@
 -- Both hints are right, so both keys stand where they say.
-use native.Mathlib.Omega.{arith}
 use Rattle.queries.proofs.Hinted.{fits, hinted_pair}
 use Rattle.queries.proofs.evaluated.Evaluated.hinted.Goals as goal
 
