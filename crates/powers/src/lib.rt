@@ -1,14 +1,14 @@
-// A key's power over a subject, positive or effective, and what a delegation conveys: put to a store and its evaluation. The places of what is asked
-// about come with the question; the answer is what the evaluation says of those places.
+// A key's power over a subject, positive or effective, and what a delegation conveys: put to a store and its evaluation. The places of two keys are
+// found here, that of a delegation comes with the question; the answer is what the evaluation says of those places.
 #![tactic(auto)]
 
 ghost use Rattle.answers.specs.Answers.{PositivePower, EffectivePower, ConveyedPower};
-ghost use Rattle.answers.specs.Sought.{PairOf, DelegationOf};
+ghost use Rattle.answers.specs.Sought.{DelegationOf};
 ghost use Rattle.store.specs.Store.{committed};
 ghost use Rattle.powers.specs.EvaluationOf.{EvaluationOf};
 
-use answers::answer;
 use answers::sought::Pair;
+use answers::{answer, sought};
 use evaluation::Evaluation;
 use keyline::refusal::Refusal;
 use places::DelegationPlace;
@@ -19,14 +19,13 @@ use store::Store;
 pub fn positive_power(
     store: &Store,
     evaluation: &Evaluation,
-    asked: Result<Pair, Refusal>,
     subject: &[u8],
     audience: &[u8],
 ) -> Result<Option<Power>, Refusal>
-    requires { EvaluationOf store.now evaluation.now × PairOf store.now.keys.table store.now.keys.count subject.now audience.now asked }
+    requires { EvaluationOf store.now evaluation.now }
     ensures { PositivePower (committed store.now) subject.now audience.now result }
 {
-    match asked? {
+    match sought::seek_pair(&store.keys.table, store.keys.count, subject, audience)? {
         Pair::Same => Ok(Some(Power::Admin)),
         Pair::Unheld => Ok(None),
         Pair::At(s, x) => Ok(answer::level_of(evaluation.positive_power(s, x))),
@@ -37,14 +36,13 @@ pub fn positive_power(
 pub fn effective_power(
     store: &Store,
     evaluation: &Evaluation,
-    asked: Result<Pair, Refusal>,
     subject: &[u8],
     audience: &[u8],
 ) -> Result<Option<Power>, Refusal>
-    requires { EvaluationOf store.now evaluation.now × PairOf store.now.keys.table store.now.keys.count subject.now audience.now asked }
+    requires { EvaluationOf store.now evaluation.now }
     ensures { EffectivePower (committed store.now) subject.now audience.now result }
 {
-    match asked? {
+    match sought::seek_pair(&store.keys.table, store.keys.count, subject, audience)? {
         Pair::Same => Ok(Some(Power::Admin)),
         Pair::Unheld => Ok(None),
         Pair::At(s, x) => {

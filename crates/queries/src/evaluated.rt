@@ -4,11 +4,11 @@ ghost use Rattle.answers.specs.Answers.{PositivePower, EffectivePower, ConveyedP
 ghost use Rattle.std.specs.Prelude.{◌≡◌, ◌+◌, ◌<◌, Ok, IfSome};
 ghost use Rattle.runs.specs.Bytes.{run_length};
 ghost use Rattle.answers.specs.Sought.{PairOf, DelegationOf};
+ghost use Rattle.answers.specs.declared.sought.Pair.TheVariants.{At};
 ghost use Rattle.store.specs.Store.{committed};
 ghost use Rattle.queries.specs.Evaluated.{held_by, GoodEvaluated};
 
-use answers::sought::Pair;
-use answers::{facts, sought};
+use answers::{answer, facts, sought};
 use evaluation::Evaluation;
 use hints::{BACK, FRONT, Hints, SLOTS};
 use keyline::refusal::Refusal;
@@ -50,29 +50,14 @@ impl Evaluated {
         way: usize,
         subject: &[u8],
         audience: &[u8],
-    ) -> Option<Pair>
+    ) -> Option<(KeyPlace, KeyPlace)>
         requires { GoodEvaluated self.now × (way + 1 < run_length) }
-        ensures { IfSome result (λ p. PairOf self.now.store.keys.table self.now.store.keys.count subject.now audience.now (Ok p)) }
+        ensures { IfSome result (λ p. PairOf self.now.store.keys.table self.now.store.keys.count subject.now audience.now (Ok (At p.0 p.1))) }
     {
         let keys = &self.store.keys;
         let s = hints::look(&keys.table, keys.count, hints, way, subject)?;
         let x = hints::look(&keys.table, keys.count, hints, way, audience)?;
-        Some(Pair::At(KeyPlace(s), KeyPlace(x)))
-    }
-
-    // Where two keys stand: as hints have them, else as they are found.
-    fn seek_pair(&self, subject: &[u8], audience: &[u8]) -> Result<Pair, Refusal>
-        requires { GoodEvaluated self.now }
-        ensures { PairOf self.now.store.keys.table self.now.store.keys.count subject.now audience.now result }
-    {
-        if let Some(pair) = self.hinted(&self.front.keys, FRONT, subject, audience) {
-            return Ok(pair);
-        }
-        if let Some(pair) = self.hinted(&self.back.keys, BACK, subject, audience) {
-            return Ok(pair);
-        }
-        let keys = &self.store.keys;
-        sought::seek_pair(&keys.table, keys.count, subject, audience)
+        Some((KeyPlace(s), KeyPlace(x)))
     }
 
     // Where the delegation stands: as one of two hints has it, else as its digest is found.
@@ -96,8 +81,13 @@ impl Evaluated {
         requires { GoodEvaluated self.now }
         ensures { PositivePower (held_by self.now) subject.now audience.now result }
     {
-        let asked = self.seek_pair(subject, audience);
-        powers::positive_power(&self.store, &self.evaluation, asked, subject, audience)
+        if let Some((s, x)) = self.hinted(&self.front.keys, FRONT, subject, audience) {
+            return Ok(answer::level_of(self.evaluation.positive_power(s, x)));
+        }
+        if let Some((s, x)) = self.hinted(&self.back.keys, BACK, subject, audience) {
+            return Ok(answer::level_of(self.evaluation.positive_power(s, x)));
+        }
+        powers::positive_power(&self.store, &self.evaluation, subject, audience)
     }
 
     // The audience's power over the subject. Nobody holds effectively what he does not hold positively, and most keys hold nothing.
@@ -105,12 +95,9 @@ impl Evaluated {
         requires { GoodEvaluated self.now }
         ensures { EffectivePower (held_by self.now) subject.now audience.now result }
     {
-        let asked = self.seek_pair(subject, audience);
-        match powers::positive_power(&self.store, &self.evaluation, asked, subject, audience)? {
+        match self.positive_power(subject, audience)? {
             None => Ok(None),
-            Some(_) => {
-                powers::effective_power(&self.store, &self.evaluation, asked, subject, audience)
-            }
+            Some(_) => powers::effective_power(&self.store, &self.evaluation, subject, audience),
         }
     }
 

@@ -1,5 +1,5 @@
 -- `effective_power` meets its contract: what was sought settles the case, and the evaluation's answer at places is the one over bytes.
-use mathlib.Core.Path.{subst, ap, ◌∙◌}
+use mathlib.Core.Path.{sym, subst, ap, ◌∙◌}
 use Rattle.std.specs.Prelude.{Ok}
 use mathlib.Core.Option.{some}
 use native.Mathlib.Omega.{arith}
@@ -8,14 +8,20 @@ use Rattle.rules.specs.Rules.{Admin, EffectiveIs}
 use Rattle.store.specs.Store.{committed}
 use Rattle.answers.specs.Graph.{graph}
 use Rattle.answers.proofs.OverBytes.{effective_self, effective_no_subject, effective_no_audience, effective_held}
-use Rattle.keyline.proofs.HandedOn.{handed_on}
 use Rattle.answers.proofs.Cases.{answer_small, pair_refused, pair_same, pair_unheld, pair_at_lem, at_pair}
+use Rattle.keyline.proofs.HandedOn.{handed_on}
 use Rattle.powers.proofs.effective_power.Goals as goal
+
+pub slice_bounds-seek_pair-end : goal.slice_bounds-seek_pair-end
+slice_bounds-seek_pair-end c = sym c.requires.store.keys.long
+
+pub seek_pair-requires : goal.seek_pair-requires
+seek_pair-requires c = c.requires.store.keys
 
 pub levels-row-requires : goal.levels-row-requires
 levels-row-requires c =
-    let g = c.requires.0 in
-    let a = pair_at_lem c.requires.1 (c.in_ok-asked.was ∙ ap Ok c.in-At.is) in
+    let g = c.requires in
+    let a = pair_at_lem c.seek_pair.ensures (c.in_ok-seek_pair.was ∙ ap Ok c.in-At.is) in
     let h = a.subject_in in
     let k = a.audience_in in
     let r = g.store.keys.room in
@@ -23,44 +29,44 @@ levels-row-requires c =
 
 pub bounds-row-x : goal.bounds-row-x
 bounds-row-x c =
-    let g = c.requires.0 in
-    let a = pair_at_lem c.requires.1 (c.in_ok-asked.was ∙ ap Ok c.in-At.is) in
+    let g = c.requires in
+    let a = pair_at_lem c.seek_pair.ensures (c.in_ok-seek_pair.was ∙ ap Ok c.in-At.is) in
     let k = a.audience_in in
     let r = g.store.keys.room in
     omega arith
 
 pub level_of-requires : goal.level_of-requires
 level_of-requires c =
-    let g = c.requires.0 in
-    let a = pair_at_lem c.requires.1 (c.in_ok-asked.was ∙ ap Ok c.in-At.is) in
+    let g = c.requires in
+    let a = pair_at_lem c.seek_pair.ensures (c.in_ok-seek_pair.was ∙ ap Ok c.in-At.is) in
     let k = a.audience_in in
     let r = g.store.keys.room in
     let e = c.levels-row.ensures c.in-At.x.0 (omega arith) in
     answer_small (get_or c.levels-row.result c.in-At.x.0 0) e.answer
 
-pub returns-in_err-asked : goal.returns-in_err-asked
-returns-in_err-asked c =
+pub returns-in_err-seek_pair : goal.returns-in_err-seek_pair
+returns-in_err-seek_pair c =
     let s = c.args in
-    rw (handed_on c.from_residual.result c.in_err-asked.field-0.0 c.from_residual.ensures.1)
-    (pair_refused (EffectiveIs (graph (committed s.store.now)) s.subject.now s.audience.now) c.requires.1 c.in_err-asked.was)
+    rw (handed_on c.from_residual.result c.in_err-seek_pair.field-0.0 c.from_residual.ensures.1)
+    (pair_refused (EffectiveIs (graph (committed s.store.now)) s.subject.now s.audience.now) c.seek_pair.ensures c.in_err-seek_pair.was)
 
 pub returns-in-Same : goal.returns-in-Same
 returns-in-Same c =
     let s = c.args in
-    let g = c.requires.0 in
+    let g = c.requires in
     let P = EffectiveIs (graph (committed s.store.now)) s.subject.now in
-    pair_same (P s.audience.now) (λ e. subst (λ y. P y (some Admin)) e (effective_self s.store.now g.store s.evaluation.now.facts g.facts g.evaluation.grades.caps s.subject.now)) c.requires.1 (c.in_ok-asked.was ∙ ap Ok c.in-Same.is)
+    pair_same (P s.audience.now) (λ e. subst (λ y. P y (some Admin)) e (effective_self s.store.now g.store s.evaluation.now.facts g.facts g.evaluation.grades.caps s.subject.now)) c.seek_pair.ensures (c.in_ok-seek_pair.was ∙ ap Ok c.in-Same.is)
 
 pub returns-in-Unheld : goal.returns-in-Unheld
 returns-in-Unheld c =
     let s = c.args in
-    let g = c.requires.0 in
+    let g = c.requires in
     pair_unheld (EffectiveIs (graph (committed s.store.now)) s.subject.now s.audience.now)
-    (effective_no_subject s.store.now g.store s.evaluation.now.facts g.facts g.evaluation.grades.caps s.subject.now s.audience.now) (effective_no_audience s.store.now g.store s.evaluation.now.facts g.facts g.evaluation.grades.caps s.subject.now s.audience.now) c.requires.1 (c.in_ok-asked.was ∙ ap Ok c.in-Unheld.is)
+    (effective_no_subject s.store.now g.store s.evaluation.now.facts g.facts g.evaluation.grades.caps s.subject.now s.audience.now) (effective_no_audience s.store.now g.store s.evaluation.now.facts g.facts g.evaluation.grades.caps s.subject.now s.audience.now) c.seek_pair.ensures (c.in_ok-seek_pair.was ∙ ap Ok c.in-Unheld.is)
 
 pub returns-in-At : goal.returns-in-At
 returns-in-At c =
     let s = c.args in
-    let g = c.requires.0 in
-    let a = pair_at_lem c.requires.1 (c.in_ok-asked.was ∙ ap Ok c.in-At.is) in
+    let g = c.requires in
+    let a = pair_at_lem c.seek_pair.ensures (c.in_ok-seek_pair.was ∙ ap Ok c.in-At.is) in
     at_pair (λ y z o. EffectiveIs (graph (committed s.store.now)) y z o) a (effective_held s.store.now g.store s.evaluation.now.facts g.facts a.subject_in a.audience_in (c.levels-row.ensures c.in-At.x.0 (let h = a.audience_in in let r = g.store.keys.room in omega arith))) c.level_of.ensures

@@ -2,18 +2,15 @@
 use mathlib.Core.Path.{ap, ◌∙◌}
 use Rattle.std.specs.Prelude.{Ok}
 use Rattle.answers.proofs.OverBytes.{effective_none}
-use Rattle.keyline.proofs.HandedOn.{handed_on}
 use Rattle.answers.proofs.Cases.{refused_too, nothing_too}
+use Rattle.keyline.proofs.HandedOn.{handed_on}
 use Rattle.queries.proofs.evaluated.Evaluated.effective_power.Goals as goal
 
-pub seek_pair-asked-requires : goal.seek_pair-asked-requires
-seek_pair-asked-requires c = c.requires
-
 pub positive_power-requires : goal.positive_power-requires
-positive_power-requires c = (c.requires, c.seek_pair-asked.ensures)
+positive_power-requires c = c.requires
 
 pub effective_power-requires : goal.effective_power-requires
-effective_power-requires c = (c.requires, c.seek_pair-asked.ensures)
+effective_power-requires c = c.requires
 
 pub returns-in_err-positive_power : goal.returns-in_err-positive_power
 returns-in_err-positive_power c =
