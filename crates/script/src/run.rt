@@ -22,6 +22,7 @@ fn measure(script: &[u8]) -> Result<usize, Refusal>
 {
     let mut at = 0;
     let mut n = 0;
+    // No `chunks`: a request is as long as its head says.
     while at < script.len() {
         let step = request::next_step(&script[at..])?;
         at += step.request;
@@ -39,6 +40,7 @@ fn perform(script: &[u8], answers: &mut [u8])
     let mut evaluated = state.evaluate();
     let mut at = 0;
     let mut done = 0;
+    // The same: the request and its room end where its head says.
     while at < script.len() {
         let q = request::next_request(&script[at..], answers.len() - done);
         let start = at;
