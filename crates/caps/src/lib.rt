@@ -6,8 +6,8 @@
 // takes that lesser anyway, so its grade is its power's.
 #![tactic(auto)]
 
-ghost use Rattle.std.specs.Prelude.{◌≡◌, ◌+◌, ◌<◌, ◌≤◌, min, max, get_or};
-ghost use Rattle.places.specs.Limits.{delegation_limit, revocation_limit};
+ghost use Rattle.std.specs.Prelude.{◌≡◌, ℕ, ◌+◌, ◌<◌, ◌≤◌, min, max, get_or};
+ghost use Rattle.places.specs.Limits.{key_limit, delegation_limit, revocation_limit};
 ghost use Rattle.search.specs.Sets.{Word};
 ghost use Rattle.search.specs.Index.{Indexed};
 ghost use Rattle.search.specs.Delegations.{graph_of};
@@ -55,7 +55,8 @@ fn raise(
     found: &Levels,
     next: &mut [u8; DELEGATION_LIMIT],
 )
-    requires { Within members facts.now.target }
+    requires within { Within members facts.now.target }
+    requires subject_lt { (d : ℕ) → get_or delegations.now.subject.now d 0 < key_limit }
     ensures { Put members facts.now.target (λ d v. v ≡ max (get_or delegations.now.grades.now d 0) (min (get_or facts.now.power d 0 + 1) (height found.now (get_or delegations.now.subject.now d 0) (get_or delegations.now.issuer.now d 0)))) next.old next.new }
 {
     let mut left = members;
@@ -80,7 +81,8 @@ fn cap_context(
     delegations: &Delegations,
     next: &mut [u8; DELEGATION_LIMIT],
 )
-    requires { Within members facts.now.target }
+    requires within { Within members facts.now.target }
+    requires subject_lt { (d : ℕ) → get_or delegations.now.subject.now d 0 < key_limit }
     ensures { Put members facts.now.target (Raised (graph_of delegations.now exclude) facts.now.power) next.old next.new }
 {
     let mut found = [0u64; KEY_LIMIT * LEVEL_COUNT];
@@ -97,6 +99,7 @@ fn cap_round(
     delegations: &Delegations,
 ) -> [u8; DELEGATION_LIMIT]
     requires within { Within living facts.now.target }
+    requires subject_lt { (d : ℕ) → get_or delegations.now.subject.now d 0 < key_limit }
     requires agreeing { Agreeing contexts.now.count contexts.now.exclude contexts.now.members facts.now.target }
     ensures { Lifted (graph_of delegations.now 0) facts.now.power facts.now.target living contexts.now.count contexts.now.exclude contexts.now.members result }
 {

@@ -3,27 +3,33 @@
 //
 // A covered delegation is named by a revocation, so a set of covered delegations is one word over the places of revocations.
 
-ghost use Rattle.std.specs.Prelude.{◌<◌, get_or};
-ghost use Rattle.places.specs.Limits.{key_limit};
+ghost use Rattle.std.specs.Prelude.{ℕ, ◌<◌, ◌≤◌, get_or};
+ghost use Rattle.places.specs.Limits.{key_limit, delegation_limit, revocation_limit};
 ghost use Rattle.rules.specs.Rules.{Admin};
 ghost use Rattle.search.specs.Sets.{Says, Word, Among};
 ghost use Rattle.search.specs.Levels.{word};
 ghost use Rattle.coverage.specs.Arrays.{Filled};
 ghost use Rattle.coverage.specs.Coverage.{RevokersBy, Shared, Exclusion};
 
-use crate::Facts;
-use places::{ADMIN, DELEGATION_LIMIT, KeyPlace, RELAY, wide};
+use places::{ADMIN, DELEGATION_LIMIT, KeyPlace, RELAY, REVOCATION_LIMIT, wide};
 use search::Levels;
 
-// For each held delegation the issuers of the revocations that name it.
-pub fn revokers(facts: &Facts) -> [u64; DELEGATION_LIMIT]
-    ensures { RevokersBy facts.now.revoker facts.now.target facts.now.revocations facts.now.delegations result }
+// For each of the first n delegations the issuers of the revocations that name it, of which there are m. It takes the columns that it reads, as
+// coverage does: the proof map names both, and the type of facts asks more.
+pub fn revokers(
+    revoker: &[u8; REVOCATION_LIMIT],
+    target: &[u8; REVOCATION_LIMIT],
+    m: usize,
+    n: usize,
+) -> [u64; DELEGATION_LIMIT]
+    requires { (m ≤ revocation_limit) × (n ≤ delegation_limit) × ((j : ℕ) → get_or revoker.now j 0 < key_limit) }
+    ensures { RevokersBy revoker.now target.now m n result }
 {
     let mut words = [0u64; DELEGATION_LIMIT];
-    for j in 0..facts.revocations {
-        let d = wide(facts.target[j]);
-        if d < facts.delegations {
-            words[d] = keyset::with(words[d], wide(facts.revoker[j]));
+    for j in 0..m {
+        let d = wide(target[j]);
+        if d < n {
+            words[d] = keyset::with(words[d], wide(revoker[j]));
         }
     }
     words
@@ -68,18 +74,20 @@ fn exclusion(w: u64, s: usize, subjects: u64, found: &Levels) -> u64
     }
 }
 
-// For each held delegation N(d) where it is covered, and 0 where it is not.
+// For each of the first n delegations N(d) where it is covered, and 0 where it is not.
 pub fn coverage(
-    facts: &Facts,
+    subject: &[u8; DELEGATION_LIMIT],
+    n: usize,
     subjects: u64,
     revokers: &[u64; DELEGATION_LIMIT],
     found: &Levels,
 ) -> [u64; DELEGATION_LIMIT]
-    ensures { Filled facts.now.delegations (λ d w. Exclusion (get_or revokers.now d 0) (get_or facts.now.subject d 0) subjects found.now w) result }
+    requires { (n ≤ delegation_limit) × ((d : ℕ) → get_or subject.now d 0 < key_limit) }
+    ensures { Filled n (λ d w. Exclusion (get_or revokers.now d 0) (get_or subject.now d 0) subjects found.now w) result }
 {
     let mut excluded = [0u64; DELEGATION_LIMIT];
-    for d in 0..facts.delegations {
-        excluded[d] = exclusion(revokers[d], wide(facts.subject[d]), subjects, found);
+    for d in 0..n {
+        excluded[d] = exclusion(revokers[d], wide(subject[d]), subjects, found);
     }
     excluded
 }

@@ -1,20 +1,21 @@
 // Stratum 1: positive power. Every held delegation is usable at its stated power, and nobody is excluded.
 
-ghost use Rattle.std.specs.Prelude.{◌≡◌, ◌+◌, get_or};
+ghost use Rattle.std.specs.Prelude.{◌≡◌, ℕ, ◌+◌, ◌<◌, ◌≤◌, get_or};
+ghost use Rattle.places.specs.Limits.{key_limit, delegation_limit};
 ghost use Rattle.search.specs.Sets.{Word};
-ghost use Rattle.coverage.specs.Arrays.{Filled};
-ghost use Rattle.coverage.specs.Places.{Subject};
+ghost use Rattle.coverage.specs.Arrays.{Any, Filled};
 
 use crate::Facts;
 use places::{DELEGATION_LIMIT, wide};
 
-// The subjects of the held delegations.
-pub fn subjects(facts: &Facts) -> u64
-    ensures { Word result (Subject facts.now) }
+// The subjects of the first n delegations. It takes the one column that it reads: the proof map names it, and the type of facts asks more.
+pub fn subjects(subject: &[u8; DELEGATION_LIMIT], n: usize) -> u64
+    requires { (n ≤ delegation_limit) × ((d : ℕ) → get_or subject.now d 0 < key_limit) }
+    ensures { Word result (Any n (λ d k. get_or subject.now d 0 ≡ k)) }
 {
     let mut w = 0;
-    for d in 0..facts.delegations {
-        w = keyset::with(w, wide(facts.subject[d]));
+    for d in 0..n {
+        w = keyset::with(w, wide(subject[d]));
     }
     w
 }

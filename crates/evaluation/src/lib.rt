@@ -39,7 +39,8 @@ pub fn evaluate(facts: Facts) -> Evaluation
     ensures { (result.facts ≡ facts) × Evaluated result }
 {
     let n = facts.delegations;
-    let subjects = coverage::positive::subjects(&facts);
+    let m = facts.revocations;
+    let subjects = coverage::positive::subjects(&facts.subject, n);
     let edges = search::edges::index(&facts.issuer, &facts.subject, n);
     let all = coverage::positive::powers(&facts);
     let delegations = Delegations {
@@ -54,8 +55,8 @@ pub fn evaluate(facts: Facts) -> Evaluation
     let mut found = [0u64; KEY_LIMIT * LEVEL_COUNT];
     search::search(&delegations, 0, subjects, &mut found);
     let reach = search::levels::reach(&found);
-    let revokers = coverage::revokers(&facts);
-    let excluded = coverage::coverage(&facts, subjects, &revokers, &found);
+    let revokers = coverage::revokers(&facts.revoker, &facts.target, m, n);
+    let excluded = coverage::coverage(&facts.subject, n, subjects, &revokers, &found);
     let contexts = coverage::contexts::contexts(&facts, &excluded);
     let live = live_set::live_set(&facts, &edges, subjects, &contexts, &revokers, &excluded);
     let grades = caps::caps(&facts, &edges, subjects, &contexts, &excluded, &live);

@@ -110,7 +110,8 @@ fn judge(
     target: &[u8; REVOCATION_LIMIT],
     delegations: &Delegations,
 ) -> u64
-    requires { Within members target.now }
+    requires within { Within members target.now }
+    requires subject_lt { (d : ℕ) → get_or delegations.now.subject.now d 0 < key_limit }
     ensures { Word result (Among members (λ j. Judged (graph_of delegations.now exclude) (get_or target.now j 0))) }
 {
     let mut found = [0u64; KEY_LIMIT * LEVEL_COUNT];
@@ -126,7 +127,8 @@ fn newly_live(
     target: &[u8; REVOCATION_LIMIT],
     delegations: &Delegations,
 ) -> u64
-    requires { Within candidates target.now }
+    requires within { Within candidates target.now }
+    requires subject_lt { (d : ℕ) → get_or delegations.now.subject.now d 0 < key_limit }
     ensures { Word result (In contexts.now.count contexts.now.members (λ c j. (bit candidates j ≡ 1) × Judged (graph_of delegations.now (get_or contexts.now.exclude c 0)) (get_or target.now j 0))) }
 {
     let mut w = 0;
@@ -150,6 +152,7 @@ fn live_round(
     base: &mut Levels,
 ) -> u64
     requires within { Within waiting target.now }
+    requires subject_lt { (d : ℕ) → get_or delegations.now.subject.now d 0 < key_limit }
     requires about { (j : ℕ) → bit waiting j ≡ 1 → bit delegations.now.subjects (get_or delegations.now.subject.now (get_or target.now j 0) 0) ≡ 1 }
     ensures found { Found (Holds (graph_of delegations.now 0)) delegations.now.subjects base.new }
     ensures word { Word result (In contexts.now.count contexts.now.members (λ c j. (bit waiting j ≡ 1) × Judged (graph_of delegations.now (get_or contexts.now.exclude c 0)) (get_or target.now j 0))) }

@@ -1,7 +1,5 @@
 // The delegations as one search walks them, lent: their columns, the index of these, and the grades at which they are usable.
 
-ghost use Rattle.std.specs.Prelude.{ℕ, ◌<◌, get_or};
-ghost use Rattle.places.specs.Limits.{key_limit};
 ghost use Rattle.search.specs.Graph.{graph};
 ghost use Rattle.search.specs.Index.{Ready};
 
@@ -21,5 +19,4 @@ pub struct Delegations<'a> {
     // the subjects of usable delegations are among these
     pub subjects: u64,
     pub ghost ready: { Ready (graph issuer.now audience.now subject.now grades.now 0) count edges.now.issuers edges.now.last edges.now.earlier subjects },
-    pub ghost subject_lt: { (d : ℕ) → get_or subject.now d 0 < key_limit },
 }

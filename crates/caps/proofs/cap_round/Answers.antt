@@ -13,8 +13,8 @@ loop-c-init c =
     let a = c.args in
     lifted_none (graph_of a.delegations.now 0) a.facts.now.power a.facts.now.target a.living a.contexts.now.exclude a.contexts.now.members
 
-pub cap_context-requires : goal.cap_context-requires
-cap_context-requires c = λ j b. c.requires.within j (omega (arith, c.meet-m.ensures j, bit_le c.args.living j))
+pub cap_context-requires-clause-within : goal.cap_context-requires-clause-within
+cap_context-requires-clause-within c = λ j b. c.requires.within j (omega (arith, c.meet-m.ensures j, bit_le c.args.living j))
 
 pub loop-c-preserved : goal.loop-c-preserved
 loop-c-preserved c =

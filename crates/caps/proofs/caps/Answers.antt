@@ -18,7 +18,6 @@ invariant_of-delegations c =
     let p = c.requires in
     let l = c.loop-next in record {
       ready = ready f l.grades 0 f.fit (grades_live f.fit l.invariant.lives) p.indexed p.subjects;
-      subject_lt = f.fit.subject_lt;
     }
 
 pub loop-next-smaller : goal.loop-next-smaller

@@ -24,7 +24,7 @@ loop-left-preserved c =
     ∙ ap (λ (z : ℕ). height found (get_or s.subject.now d 0) z) c.wide-in-loop-left.ensures in
     let v : c.max.result ≡ lift s.issuer.now s.subject.now power s.grades.now found d =
     c.max.ensures ∙ ap (max (get_or s.grades.now d 0)) (c.min.ensures ∙ ap (min (get_or power d 0 + 1)) level) in
-    let named = c.requires c.lowest-j.result (l.invariant.1.left_in.within c.lowest-j.result c.lowest-j.ensures.1) in
+    let named = c.requires.within c.lowest-j.result (l.invariant.1.left_in.within c.lowest-j.result c.lowest-j.ensures.1) in
     let P = putting_more l.left c.without-left.result c.lowest-j.result l.invariant.1 c.lowest-j.ensures.1 c.without-left.ensures.0 c.without-left.ensures.1
     d _ (sym c.wide-d.ensures) (omega (arith, c.wide-d.ensures, named, l.invariant.0)) v in
     (omega (arith, P.same), P)

@@ -9,8 +9,8 @@ use Rattle.live_set.proofs.newly_live.Goals as goal
 pub loop-c-init : goal.loop-c-init
 loop-c-init c = in_none _ _ _
 
-pub judge-found-requires : goal.judge-found-requires
-judge-found-requires c = λ j b. c.requires j (omega (arith, c.meet-m.ensures j, bit_le c.args.candidates j))
+pub judge-found-requires-clause-within : goal.judge-found-requires-clause-within
+judge-found-requires-clause-within c = λ j b. c.requires.within j (omega (arith, c.meet-m.ensures j, bit_le c.args.candidates j))
 
 pub loop-c-preserved : goal.loop-c-preserved
 loop-c-preserved c =

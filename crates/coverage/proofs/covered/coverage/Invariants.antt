@@ -5,4 +5,4 @@ use Rattle.coverage.specs.Coverage.{Exclusion}
 use Rattle.coverage.proofs.covered.coverage.Given as goal
 
 abbrev pub invariant-loop-d : goal.invariant-loop-d
-invariant-loop-d l = Filled l.d (λ i w. Exclusion (get_or l.revokers i 0) (get_or l.facts.subject i 0) l.subjects l.found w) l.excluded
+invariant-loop-d l = Filled l.d (λ i w. Exclusion (get_or l.revokers i 0) (get_or l.subject i 0) l.subjects l.found w) l.excluded

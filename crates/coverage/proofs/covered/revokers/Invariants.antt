@@ -3,4 +3,4 @@ use Rattle.coverage.specs.Coverage.{RevokersBy}
 use Rattle.coverage.proofs.covered.revokers.Given as goal
 
 abbrev pub invariant-loop-j : goal.invariant-loop-j
-invariant-loop-j l = RevokersBy l.facts.revoker l.facts.target l.j l.facts.delegations l.words
+invariant-loop-j l = RevokersBy l.revoker l.target l.j l.n l.words

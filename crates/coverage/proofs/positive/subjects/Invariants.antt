@@ -6,4 +6,4 @@ use Rattle.coverage.specs.Arrays.{Any}
 use Rattle.coverage.proofs.positive.subjects.Given as goal
 
 abbrev pub invariant-loop-d : goal.invariant-loop-d
-invariant-loop-d l = Word l.w (Any l.d (λ j k. get_or l.facts.subject j 0 ≡ k))
+invariant-loop-d l = Word l.w (Any l.d (λ j k. get_or l.subject j 0 ≡ k))

@@ -10,7 +10,6 @@ invariant_of-delegations c =
     let v = c.args.self.now in
     let K = c.requires.0 in record {
       ready = ready v.facts v.grades 0 K.fit (grades_live K.fit K.grades.lives) c.index-edges.ensures K.subjects;
-      subject_lt = K.fit.subject_lt;
     }
 
 pub search-requires : goal.search-requires
