@@ -12,7 +12,7 @@ ghost use Rattle.coverage.specs.Arrays.{Filled};
 ghost use Rattle.coverage.specs.Coverage.{RevokersBy, Shared, Exclusion};
 
 use crate::Facts;
-use places::{ADMIN, DELEGATION_LIMIT, KeyPlace, RELAY, wide};
+use places::{ADMIN, DELEGATION_LIMIT, KeyPlace, RELAY};
 use search::Levels;
 
 // For each held delegation the issuers of the revocations that name it.
@@ -21,9 +21,9 @@ pub fn revokers(facts: &Facts) -> [u64; DELEGATION_LIMIT]
 {
     let mut words = [0u64; DELEGATION_LIMIT];
     for j in 0..facts.revocations {
-        let d = wide(facts.target[j]);
+        let d = usize::from(facts.target[j]);
         if d < facts.delegations {
-            words[d] = keyset::with(words[d], wide(facts.revoker[j]));
+            words[d] = keyset::with(words[d], usize::from(facts.revoker[j]));
         }
     }
     words
@@ -79,7 +79,7 @@ pub fn coverage(
 {
     let mut excluded = [0u64; DELEGATION_LIMIT];
     for d in 0..facts.delegations {
-        excluded[d] = exclusion(revokers[d], wide(facts.subject[d]), subjects, found);
+        excluded[d] = exclusion(revokers[d], usize::from(facts.subject[d]), subjects, found);
     }
     excluded
 }

@@ -6,7 +6,7 @@ ghost use Rattle.coverage.specs.Arrays.{Filled};
 ghost use Rattle.coverage.specs.Places.{Subject};
 
 use crate::Facts;
-use places::{DELEGATION_LIMIT, wide};
+use places::DELEGATION_LIMIT;
 
 // The subjects of the held delegations.
 pub fn subjects(facts: &Facts) -> u64
@@ -14,7 +14,7 @@ pub fn subjects(facts: &Facts) -> u64
 {
     let mut w = 0;
     for d in 0..facts.delegations {
-        w = keyset::with(w, wide(facts.subject[d]));
+        w = keyset::with(w, usize::from(facts.subject[d]));
     }
     w
 }
