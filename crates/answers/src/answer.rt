@@ -13,9 +13,6 @@ pub fn level_of(byte: u8) -> Option<Power>
 {
     match byte {
         0 => None,
-        1 => Some(Power::Relay),
-        2 => Some(Power::Read),
-        3 => Some(Power::Edit),
-        _ => Some(Power::Admin),
+        b => Some(Power::from_rank(b - 1)),
     }
 }

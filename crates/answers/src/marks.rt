@@ -4,6 +4,7 @@ ghost use Rattle.keyline.specs.Limits.{key_limit, delegation_limit, revocation_l
 ghost use Rattle.answers.specs.Marks.{isMember, MemberWord, MemberMarks, Letters, letter_at, InNodes, Naming};
 
 use keyline::limits::{DELEGATION_LIMIT, KEY_LIMIT, REVOCATION_LIMIT};
+use power_levels::power::Power;
 
 // Whether the key at place x, whose byte of the subject's row is given, is a member of the subject at place s.
 fn is_member(byte: u8, x: usize, s: usize) -> bool
@@ -42,12 +43,7 @@ pub fn member_marks(row: &[u8], n: usize, s: usize) -> [bool; KEY_LIMIT]
 fn letter(byte: u8) -> u8
     ensures { result ≡ letter_at byte }
 {
-    match byte {
-        0 | 1 => b'L',
-        2 => b'R',
-        3 => b'E',
-        _ => b'A',
-    }
+    Power::from_rank(byte.saturating_sub(1)).byte()
 }
 
 // A row's letters.

@@ -21,7 +21,7 @@ ghost use Rattle.caps.specs.Caps.{Alive, Raised, Lifted, Capped};
 
 use coverage::contexts::Groups;
 use coverage::{Facts, members};
-use places::{DELEGATION_LIMIT, KEY_LIMIT, KeyPlace, LEVEL_COUNT, REVOCATION_LIMIT, wide};
+use places::{DELEGATION_LIMIT, KEY_LIMIT, KeyPlace, LEVEL_COUNT, REVOCATION_LIMIT};
 use search::Levels;
 use search::delegations::Delegations;
 use search::edges::Edges;
@@ -39,7 +39,7 @@ fn living(
 {
     let mut w = 0;
     for j in 0..m {
-        let d = wide(target[j]);
+        let d = usize::from(target[j]);
         if d < n && excluded[d] != 0 && grades[d] != 0 {
             w = keyset::with(w, j);
         }
@@ -63,11 +63,11 @@ fn raise(
     while left != 0 {
         let j = keyset::lowest(left);
         left = keyset::without(left, j);
-        let d = wide(facts.target[j]);
+        let d = usize::from(facts.target[j]);
         let level = search::levels::level(
             found,
-            KeyPlace(wide(delegations.subject[d])),
-            KeyPlace(wide(delegations.issuer[d])),
+            KeyPlace(usize::from(delegations.subject[d])),
+            KeyPlace(usize::from(delegations.issuer[d])),
         );
         next[d] = delegations.grades[d].max((facts.power[d] + 1).min(level));
     }

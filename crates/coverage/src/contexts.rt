@@ -6,7 +6,7 @@ ghost use Rattle.places.specs.Limits.{revocation_limit};
 ghost use Rattle.coverage.specs.Contexts.{Sought, Grouped};
 
 use crate::Facts;
-use places::{DELEGATION_LIMIT, REVOCATION_LIMIT, wide};
+use places::{DELEGATION_LIMIT, REVOCATION_LIMIT};
 
 #[derive(Clone, Copy)]
 pub struct Groups {
@@ -39,7 +39,7 @@ pub fn contexts(facts: &Facts, excluded: &[u64; DELEGATION_LIMIT]) -> Groups
     let mut exclude = [0u64; REVOCATION_LIMIT];
     let mut members = [0u64; REVOCATION_LIMIT];
     for j in 0..facts.revocations {
-        let d = wide(facts.target[j]);
+        let d = usize::from(facts.target[j]);
         if d < facts.delegations {
             let w = excluded[d];
             if w != 0 {

@@ -7,7 +7,7 @@ ghost use Rattle.search.specs.Sets.{Word, Among};
 ghost use Rattle.search.specs.Levels.{On};
 ghost use Rattle.coverage.specs.Contexts.{Within, Through};
 
-use places::{KeyPlace, REVOCATION_LIMIT, wide};
+use places::{KeyPlace, REVOCATION_LIMIT};
 use search::Levels;
 use search::delegations::Delegations;
 
@@ -22,8 +22,8 @@ pub fn roots(members: u64, target: &[u8; REVOCATION_LIMIT], delegations: &Delega
     while left != 0 {
         let j = keyset::lowest(left);
         left = keyset::without(left, j);
-        let d = wide(target[j]);
-        w = keyset::with(w, wide(delegations.subject[d]));
+        let d = usize::from(target[j]);
+        w = keyset::with(w, usize::from(delegations.subject[d]));
     }
     w
 }
@@ -44,9 +44,9 @@ pub fn reached(
     while left != 0 {
         let j = keyset::lowest(left);
         left = keyset::without(left, j);
-        let d = wide(target[j]);
-        let root = KeyPlace(wide(delegations.subject[d]));
-        let issuer = KeyPlace(wide(delegations.issuer[d]));
+        let d = usize::from(target[j]);
+        let root = KeyPlace(usize::from(delegations.subject[d]));
+        let issuer = KeyPlace(usize::from(delegations.issuer[d]));
         if search::levels::reached(found, root, issuer) {
             w = keyset::with(w, j);
         }

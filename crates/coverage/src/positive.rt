@@ -6,7 +6,7 @@ ghost use Rattle.search.specs.Sets.{Word};
 ghost use Rattle.coverage.specs.Arrays.{Any, Filled};
 
 use crate::Facts;
-use places::{DELEGATION_LIMIT, wide};
+use places::DELEGATION_LIMIT;
 
 // The subjects of the first n delegations. It takes the one column that it reads: the proof map names it, and the type of facts asks more.
 pub fn subjects(subject: &[u8; DELEGATION_LIMIT], n: usize) -> u64
@@ -15,7 +15,7 @@ pub fn subjects(subject: &[u8; DELEGATION_LIMIT], n: usize) -> u64
 {
     let mut w = 0;
     for d in 0..n {
-        w = keyset::with(w, wide(subject[d]));
+        w = keyset::with(w, usize::from(subject[d]));
     }
     w
 }

@@ -15,7 +15,7 @@ ghost use Rattle.evaluation.specs.Result.{Evaluated, standing_of};
 
 use coverage::Facts;
 use keyline::standing::Standing;
-use places::{ADMIN, DELEGATION_LIMIT, DelegationPlace, KEY_LIMIT, KeyPlace, LEVEL_COUNT, wide};
+use places::{ADMIN, DELEGATION_LIMIT, DelegationPlace, KEY_LIMIT, KeyPlace, LEVEL_COUNT};
 use search::Levels;
 use search::delegations::Delegations;
 
@@ -133,8 +133,8 @@ impl Evaluation {
         if self.excluded[d] != 0 {
             return grade;
         }
-        let row = self.levels(KeyPlace(wide(self.facts.subject[d])));
-        grade.min(row[wide(self.facts.issuer[d])])
+        let row = self.levels(KeyPlace(usize::from(self.facts.subject[d])));
+        grade.min(row[usize::from(self.facts.issuer[d])])
     }
 
     // The standing of a held delegation: a dead one is Revoked if a held revocation names it, else Unsupported.

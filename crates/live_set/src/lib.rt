@@ -25,7 +25,7 @@ ghost use Rattle.live_set.specs.Live.{PlainAt, Fair, Open, Judged, SettledAt};
 use crate::revoked_by_audience::revoked_by_audience;
 use coverage::contexts::Groups;
 use coverage::{Facts, members};
-use places::{DELEGATION_LIMIT, KEY_LIMIT, KeyPlace, LEVEL_COUNT, REVOCATION_LIMIT, wide};
+use places::{DELEGATION_LIMIT, KEY_LIMIT, KeyPlace, LEVEL_COUNT, REVOCATION_LIMIT};
 use search::Levels;
 use search::delegations::Delegations;
 use search::edges::Edges;
@@ -87,14 +87,14 @@ fn eligibles<'a>(
 {
     let mut w = 0;
     for j in 0..m {
-        let d = wide(target[j]);
+        let d = usize::from(target[j]);
         if d < n
             && eligible(
                 excluded[d],
                 revokers[d],
-                wide(issuer[d]),
-                wide(audience[d]),
-                wide(subject[d]),
+                usize::from(issuer[d]),
+                usize::from(audience[d]),
+                usize::from(subject[d]),
             )
         {
             w = keyset::with(w, j);
@@ -177,7 +177,7 @@ fn join<'a>(
     while left != 0 {
         let j = keyset::lowest(left);
         left = keyset::without(left, j);
-        let d = wide(target[j]);
+        let d = usize::from(target[j]);
         grades[d] = power[d] + 1;
     }
 }
@@ -217,8 +217,8 @@ fn settled<'a>(
     for d in 0..n {
         let stands = search::levels::reached(
             base,
-            KeyPlace(wide(subject[d])),
-            KeyPlace(wide(issuer[d])),
+            KeyPlace(usize::from(subject[d])),
+            KeyPlace(usize::from(issuer[d])),
         );
         g[d] = settle(excluded[d], grades[d], stands);
     }

@@ -1,4 +1,5 @@
 -- Laws of lookups: the payload that a held delegation came as, and each case of an answer. Rests on the payload writer's laws.
+use mir.Val.{bool_byte}
 use Prim.Native.Nat.{ℕ, ◌+◌, ◌-◌, ◌*◌, ◌≤◌, ◌<◌}
 use mathlib.Core.Path.{◌≡◌, refl, ap, ◌∙◌}
 use mathlib.Core.Bool.{Bool, true, false, cond}
@@ -9,7 +10,7 @@ use lib.ListN.{length, take, drop, length-append}
 use borrow.Author.Tests.{lt-ltb, le-ltb, eq-eqb, ne_eqb}
 use Rattle.std.specs.Prelude.{Ok}
 use Rattle.lent.specs.Bytes.{front}
-use Rattle.power_levels.specs.Power.{level_of, byte_of}
+use Rattle.power_levels.specs.Power.{level_of, byte_of, at_rank}
 use Rattle.codec.specs.Delegation.{encoded, encode_answer, after_encode, filled}
 use Rattle.power_levels.specs.declared.power.Power.{Power}
 use Rattle.keyline.specs.declared.refusal.Refusal.TheVariants.{SmallBuffer, BadLength}
@@ -49,29 +50,34 @@ write_fits a s c o p ha hs hc r =
     let e = encoded_long a s c (byte_of p) ha hs in
     ap (λ w. filled w (encoded a s (byte_of p) c) o) (answer_fits a s c o (byte_of p) p ha hs hc (level_byte p) (omega arith))
 
--- a citation, or nothing
-pub cited_part : (t : Bytes) (i k : ℕ) (b : Bool) → k ≡ cond b run_length 0 → take (run_length * i + k - run_length * i) (drop (run_length * i) t) ≡ cond b (run_at t i) []
-cited_part t i k true e = rw e (run_part t i)
-cited_part t i k false e = let z : run_length * i + k - run_length * i ≡ 0 = omega arith in rw z
+-- the level of a rank, in the columns' words
+pub rank_power : (r : ℕ) → at_rank r ≡ power_of r
+unfolding at_rank power_of
+rank_power r = refl
 
-pub cited_le : (b : Bool) (k : ℕ) → k ≡ cond b run_length 0 → k ≤ run_length
-cited_le true k e = omega arith
-cited_le false k e = omega arith
+-- a citation, or nothing
+pub cited_part : (t : Bytes) (i n : ℕ) (b : Bool) → n ≡ bool_byte b → take (run_length * i + run_length * n - run_length * i) (drop (run_length * i) t) ≡ cond b (run_at t i) []
+cited_part t i n true e = rw e (run_part t i)
+cited_part t i n false e = let z : run_length * i + run_length * n - run_length * i ≡ 0 = omega arith in rw z
+
+pub cited_le : (b : Bool) (n : ℕ) → n ≡ bool_byte b → run_length * n ≤ run_length
+cited_le true n e = omega arith
+cited_le false n e = omega arith
 
 module _ (k c : Bytes) (at : DelegationPlace) (row : DelegationRow) (f : RowFits k c at row) where
-  citation_long : (b : Bool) → length (cond b (run_at c at.0) []) ≡ cond b run_length 0
-  citation_long true = length_run c at.0 f.citation
-  citation_long false = refl
+  citation_long : (b : Bool) (n : ℕ) → n ≡ bool_byte b → length (cond b (run_at c at.0) []) ≡ run_length * n
+  citation_long true n e = length_run c at.0 f.citation ∙ (let z : run_length ≡ run_length * n = omega arith in z)
+  citation_long false n e = let z : 0 ≡ run_length * n = omega arith in z
 
   citation_is : (b : Bool) → Cited (cond b (run_at c at.0) [])
   citation_is true = inr (length_run c at.0 f.citation)
   citation_is false = inl refl
 
-  pub payload_long : length (payload_of (row_there k c at row)) ≡ payload_length + cond row.cited run_length 0
-  payload_long =
+  pub payload_long : (n : ℕ) → n ≡ bool_byte row.cited → length (payload_of (row_there k c at row)) ≡ payload_length + run_length * n
+  payload_long n e =
       encoded_long (run_at k row.audience.0) (run_at k row.subject.0) (cond row.cited (run_at c at.0) []) (byte_of (power_of row.power))
       (length_run k row.audience.0 f.audience) (length_run k row.subject.0 f.subject)
-      ∙ rw (citation_long row.cited)
+      ∙ rw (citation_long row.cited n e)
 
   pub payload_put : (o a s ci : Bytes) (b : ℕ) → a ≡ run_at k row.audience.0 → s ≡ run_at k row.subject.0 → b ≡ byte_of (power_of row.power) → ci ≡ cond row.cited (run_at c at.0) []
       → length (payload_of (row_there k c at row)) ≤ length o → after_encode a s b ci o ≡ front (payload_of (row_there k c at row)) o

@@ -37,7 +37,9 @@ pub fn delegation(
     issuer: &mut [u8],
     payload: &mut [u8],
 ) -> Result<Option<usize>, Refusal>
-    ensures { (result ≡ delegation_lookup (committed store.now) digest.now (length issuer.old) (length payload.old)) × (issuer.new ≡ part_buffer result (delegation_with (committed store.now) digest.now).issuer issuer.old) × (payload.new ≡ part_buffer result (payload_of (delegation_with (committed store.now) digest.now)) payload.old) }
+    ensures answer { result ≡ delegation_lookup (committed store.now) digest.now (length issuer.old) (length payload.old) }
+    ensures issuer { issuer.new ≡ part_buffer result (delegation_with (committed store.now) digest.now).issuer issuer.old }
+    ensures payload { payload.new ≡ part_buffer result (payload_of (delegation_with (committed store.now) digest.now)) payload.old }
 {
     if digest.len() != DIGEST_LENGTH {
         return Err(Refusal::BadLength(digest.len()));
@@ -72,7 +74,9 @@ pub fn revocation(
     issuer: &mut [u8],
     revoked: &mut [u8],
 ) -> Result<Option<usize>, Refusal>
-    ensures { (result ≡ revocation_lookup (committed store.now) digest.now (length issuer.old) (length revoked.old)) × (issuer.new ≡ part_buffer result (revocation_with (committed store.now) digest.now).issuer issuer.old) × (revoked.new ≡ part_buffer result (revocation_with (committed store.now) digest.now).revoked revoked.old) }
+    ensures answer { result ≡ revocation_lookup (committed store.now) digest.now (length issuer.old) (length revoked.old) }
+    ensures issuer { issuer.new ≡ part_buffer result (revocation_with (committed store.now) digest.now).issuer issuer.old }
+    ensures revoked { revoked.new ≡ part_buffer result (revocation_with (committed store.now) digest.now).revoked revoked.old }
 {
     if digest.len() != DIGEST_LENGTH {
         return Err(Refusal::BadLength(digest.len()));

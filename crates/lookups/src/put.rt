@@ -1,10 +1,8 @@
 // A certificate that was found: its two parts, in two lent buffers. Both fits are tested before the first byte is written.
-ghost use Rattle.std.specs.Prelude.{◌≡◌, cond, ◌≤◌, ◌<◌, ◌+◌, ◌*◌, length};
-ghost use Rattle.power_levels.specs.Power.{byte_of};
+ghost use Rattle.std.specs.Prelude.{◌≡◌, ◌≤◌, ◌<◌, ◌+◌, ◌*◌, length};
 ghost use Rattle.lent.specs.Bytes.{front};
 ghost use Rattle.runs.specs.Bytes.{run_length, run_at};
 ghost use Rattle.tables.specs.Committed.{payload_of};
-ghost use Rattle.tables.specs.Columns.{power_of};
 ghost use Rattle.tables.specs.Look.{RunFits, RowFits, RevocationFits, row_there};
 ghost use Rattle.lookups.specs.Lookup.{parts_answer, part_buffer};
 
@@ -25,20 +23,6 @@ fn put_run<'a>(table: &'a [u8], i: usize, out: &mut [u8])
     bytes::put_item(&mut out[0..RUN_LENGTH], &table[a..a + RUN_LENGTH]);
 }
 
-// The byte of a power that is kept by its rank.
-#[tactic(auto, unfolding(tables::specs::Columns::power_of, power_levels::specs::Power::at_rank))]
-fn power_byte(rank: u8) -> u8
-    ensures { result ≡ byte_of (power_of rank) }
-{
-    Power::from_rank(rank).byte()
-}
-
-fn citation_length(cited: bool) -> usize
-    ensures { result ≡ cond cited run_length 0 }
-{
-    if cited { RUN_LENGTH } else { 0 }
-}
-
 // The payload that the delegation at a place came as, at the front of the buffer.
 fn put_payload<'a>(
     keys: &'a [u8],
@@ -55,8 +39,8 @@ fn put_payload<'a>(
     let a = RUN_LENGTH * audience.0;
     let s = RUN_LENGTH * subject.0;
     let c = RUN_LENGTH * at.0;
-    let e = c + citation_length(row.cited);
-    let w = power_byte(row.power);
+    let e = c + RUN_LENGTH * usize::from(row.cited);
+    let w = Power::from_rank(row.power).byte();
     let written = codec::delegation::encode(
         &keys[a..a + RUN_LENGTH],
         &keys[s..s + RUN_LENGTH],
@@ -76,12 +60,14 @@ pub fn put_delegation<'a>(
     payload: &mut [u8],
 ) -> Result<Option<usize>, Refusal>
     requires { RowFits keys.now citations.now at row }
-    ensures { (result ≡ parts_answer (run_at keys.now row.issuer.0) (payload_of (row_there keys.now citations.now at row)) (length issuer.old) (length payload.old)) × (issuer.new ≡ part_buffer result (run_at keys.now row.issuer.0) issuer.old) × (payload.new ≡ part_buffer result (payload_of (row_there keys.now citations.now at row)) payload.old) }
+    ensures answer { result ≡ parts_answer (run_at keys.now row.issuer.0) (payload_of (row_there keys.now citations.now at row)) (length issuer.old) (length payload.old) }
+    ensures issuer { issuer.new ≡ part_buffer result (run_at keys.now row.issuer.0) issuer.old }
+    ensures payload { payload.new ≡ part_buffer result (payload_of (row_there keys.now citations.now at row)) payload.old }
 {
     if issuer.len() < KEY_LENGTH {
         return Err(Refusal::SmallBuffer(KEY_LENGTH));
     }
-    let n = PAYLOAD_LENGTH + citation_length(row.cited);
+    let n = PAYLOAD_LENGTH + RUN_LENGTH * usize::from(row.cited);
     if payload.len() < n {
         return Err(Refusal::SmallBuffer(n));
     }
@@ -101,7 +87,9 @@ pub fn put_revocation<'a>(
     revoked: &mut [u8],
 ) -> Result<Option<usize>, Refusal>
     requires { RevocationFits keys.now column.now at by }
-    ensures { (result ≡ parts_answer (run_at keys.now by.0) (run_at column.now at.0) (length issuer.old) (length revoked.old)) × (issuer.new ≡ part_buffer result (run_at keys.now by.0) issuer.old) × (revoked.new ≡ part_buffer result (run_at column.now at.0) revoked.old) }
+    ensures answer { result ≡ parts_answer (run_at keys.now by.0) (run_at column.now at.0) (length issuer.old) (length revoked.old) }
+    ensures issuer { issuer.new ≡ part_buffer result (run_at keys.now by.0) issuer.old }
+    ensures revoked { revoked.new ≡ part_buffer result (run_at column.now at.0) revoked.old }
 {
     if issuer.len() < KEY_LENGTH {
         return Err(Refusal::SmallBuffer(KEY_LENGTH));

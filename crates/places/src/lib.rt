@@ -2,8 +2,6 @@
 // specs/Limits.antt has the same numbers for contracts.
 #![tactic(auto)]
 
-ghost use Rattle.std.specs.Prelude.{◌≡◌};
-
 pub const KEY_LIMIT: usize = keyline::limits::KEY_LIMIT;
 
 pub const DELEGATION_LIMIT: usize = keyline::limits::DELEGATION_LIMIT;
@@ -25,10 +23,3 @@ pub struct DelegationPlace(pub usize);
 
 #[derive(Clone, Copy)]
 pub struct RevocationPlace(pub usize);
-
-// A place that a table keeps in a byte, as an index.
-pub fn wide(place: u8) -> usize
-    ensures { result ≡ place }
-{
-    place as usize
-}

@@ -7,7 +7,7 @@ ghost use Rattle.std.specs.Prelude.{ℕ, ◌≤◌, ◌<◌, get_or};
 ghost use Rattle.places.specs.Limits.{key_limit, delegation_limit};
 ghost use Rattle.search.specs.Index.{Indexed};
 
-use places::{DELEGATION_LIMIT, KEY_LIMIT, wide};
+use places::{DELEGATION_LIMIT, KEY_LIMIT};
 
 #[derive(Clone, Copy)]
 pub struct Edges {
@@ -28,8 +28,8 @@ pub fn index(issuer: &[u8; DELEGATION_LIMIT], subject: &[u8; DELEGATION_LIMIT], 
     let mut last = [0u8; KEY_LIMIT * KEY_LIMIT];
     let mut earlier = [0u8; DELEGATION_LIMIT];
     for d in 0..n {
-        let r = wide(subject[d]);
-        let u = wide(issuer[d]);
+        let r = usize::from(subject[d]);
+        let u = usize::from(issuer[d]);
         let at = r * KEY_LIMIT + u;
         issuers[r] = keyset::with(issuers[r], u);
         earlier[d] = last[at];

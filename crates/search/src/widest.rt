@@ -8,7 +8,7 @@ ghost use Rattle.search.specs.Walk.{Grown, Relaxed, Led, Joins, Sound, Row};
 
 use crate::Levels;
 use crate::delegations::Delegations;
-use places::{ADMIN, KEY_LIMIT, LEVEL_COUNT, wide};
+use places::{ADMIN, KEY_LIMIT, LEVEL_COUNT};
 
 // One delegation whose issuer stands at v: its audience at the lesser of v and the delegation's level.
 fn relax(v: usize, grade: u8, audience: u8, exclude: u64, buckets: &mut [u64; LEVEL_COUNT])
@@ -16,8 +16,8 @@ fn relax(v: usize, grade: u8, audience: u8, exclude: u64, buckets: &mut [u64; LE
     ensures { Grown buckets.old buckets.new (Relaxed v grade audience exclude) }
 {
     if grade != 0 {
-        let l = v.min(wide(grade - 1));
-        let one = keyset::minus(keyset::only(wide(audience)), exclude);
+        let l = v.min(usize::from(grade - 1));
+        let one = keyset::minus(keyset::only(usize::from(audience)), exclude);
         buckets[l] = keyset::union(buckets[l], one);
     }
 }
@@ -37,11 +37,11 @@ fn relax_edges(
     let grades = delegations.grades;
     let audience = delegations.audience;
     let edges = delegations.edges;
-    let mut next = wide(edges.last[r * KEY_LIMIT + u]);
+    let mut next = usize::from(edges.last[r * KEY_LIMIT + u]);
     while next > 0 {
         let d = next - 1;
         relax(v, grades[d], audience[d], exclude, buckets);
-        next = wide(edges.earlier[d]);
+        next = usize::from(edges.earlier[d]);
     }
 }
 

@@ -8,7 +8,7 @@ ghost use Rattle.keyline.specs.Limits.{delegation_limit, key_limit};
 ghost use Rattle.tables.specs.Columns.{key_place, row_from};
 
 use keyline::limits::DELEGATION_LIMIT;
-use places::{DelegationPlace, KeyPlace, wide};
+use places::{DelegationPlace, KeyPlace};
 use runs::bytes::RUN_LENGTH;
 use runs::table::LARGE_TABLE;
 use runs::{bytes, table};
@@ -50,7 +50,7 @@ pub fn key_at(column: &[u8], at: DelegationPlace) -> KeyPlace
 {
     let i = at.0;
     if i < column.len() {
-        return KeyPlace(wide(column[i]));
+        return KeyPlace(usize::from(column[i]));
     }
     KeyPlace(0)
 }

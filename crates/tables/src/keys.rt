@@ -1,14 +1,13 @@
 // The held keys: a table of runs, and their number.
-ghost use Rattle.std.specs.Prelude.{◌≡◌, true, cond, [], ◌∷◌, ◌≤◌, ◌+◌, length};
-ghost use Rattle.runs.specs.Bytes.{eq_bytes};
+ghost use Rattle.std.specs.Prelude.{◌≡◌, [], ◌∷◌, length};
 ghost use Rattle.runs.specs.Members.{place, has, fresh};
 ghost use Rattle.runs.specs.Table.{runs, GoodRuns};
 ghost use Rattle.keyline.specs.Limits.{key_limit, key_length};
 
 use keyline::limits::KEY_LIMIT;
 use places::KeyPlace;
+use runs::table;
 use runs::table::SMALL_TABLE;
-use runs::{bytes, table};
 
 #[derive(Clone, Copy)]
 pub struct Keys {
@@ -31,34 +30,12 @@ pub fn is_held(table: &[u8], n: usize, key: &[u8]) -> bool
     table::find(table, KEY_LIMIT, n, key) < n
 }
 
-fn same(a: &[u8], b: &[u8]) -> bool
-    requires { length a.now ≡ key_length }
-    ensures { result ≡ eq_bytes a.now b.now }
-{
-    bytes::same_at(a, 0, b)
-}
-
-fn either(a: bool, b: bool) -> bool
-    ensures { result ≡ cond a true b }
-{
-    if a {
-        return true;
-    }
-    b
-}
-
-fn one_unless(t: bool) -> usize
-    ensures { (result ≡ cond t 0 1) × (result ≤ 1) }
-{
-    if t { 0 } else { 1 }
-}
-
 // How many keys more a key makes: none where it is held.
 pub fn fresh_one(table: &[u8], n: usize, key: &[u8]) -> usize
     requires { GoodRuns key_limit table.now n }
     ensures { result ≡ length (fresh (runs table.now n) (key.now ∷ [])) }
 {
-    one_unless(is_held(table, n, key))
+    usize::from(!is_held(table, n, key))
 }
 
 // How many keys more three keys make: those that are not held, each once.
@@ -67,7 +44,7 @@ pub fn fresh_three(table: &[u8], n: usize, a: &[u8], b: &[u8], c: &[u8]) -> usiz
     ensures { result ≡ length (fresh (runs table.now n) (a.now ∷ b.now ∷ c.now ∷ [])) }
 {
     let x = is_held(table, n, a);
-    let y = either(is_held(table, n, b), same(a, b));
-    let z = either(either(is_held(table, n, c), same(a, c)), same(b, c));
-    one_unless(x) + one_unless(y) + one_unless(z)
+    let y = is_held(table, n, b) || a == b;
+    let z = is_held(table, n, c) || a == c || b == c;
+    usize::from(!x) + usize::from(!y) + usize::from(!z)
 }

@@ -8,7 +8,7 @@ ghost use Rattle.keyline.specs.Limits.{revocation_limit, key_limit, digest_lengt
 ghost use Rattle.tables.specs.Columns.{key_place};
 
 use keyline::limits::REVOCATION_LIMIT;
-use places::{KeyPlace, RevocationPlace, wide};
+use places::{KeyPlace, RevocationPlace};
 use runs::bytes::RUN_LENGTH;
 use runs::table::SMALL_TABLE;
 use runs::{bytes, table};
@@ -35,7 +35,7 @@ pub fn key_at(column: &[u8], at: RevocationPlace) -> KeyPlace
 {
     let i = at.0;
     if i < column.len() {
-        return KeyPlace(wide(column[i]));
+        return KeyPlace(usize::from(column[i]));
     }
     KeyPlace(0)
 }

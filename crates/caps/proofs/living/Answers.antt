@@ -20,7 +20,7 @@ pub loop-j-preserved : goal.loop-j-preserved
 loop-j-preserved c =
     let a = c.args in
     let l = c.loop-j in
-    let e = c.wide-d.ensures in
+    let e = c.from-d.ensures in
     elim c.if-d-n.branch [
       | then-d-n+then-excluded-d-ne0+then-grades-d-ne0 w ↦ rw w.w-is
           (below_more l.j l.invariant w.with-w.ensures.0 w.with-w.ensures.1

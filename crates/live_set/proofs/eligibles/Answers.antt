@@ -15,14 +15,14 @@ loop-j-preserved c =
     elim c.if-d-n.branch [
       | then-d-n+then-eligible w ↦ rw w.w-is
           (below_more l.j l.invariant w.with-w.ensures.0 w.with-w.ensures.1
-          ((open_says a.target.now a.n a.issuer.now a.audience.now a.subject.now a.revokers.now a.excluded.now l.j c.wide-d.result w.wide.result w.wide-then-d-n.result w.wide-then-d-n-2.result c.wide-d.ensures w.if-d-n.true
-          w.wide.ensures w.wide-then-d-n.ensures w.wide-then-d-n-2.ensures w.eligible.ensures).yes w.if-eligible.true))
+          ((open_says a.target.now a.n a.issuer.now a.audience.now a.subject.now a.revokers.now a.excluded.now l.j c.from-d.result w.from.result w.from-then-d-n.result w.from-then-d-n-2.result c.from-d.ensures w.if-d-n.true
+          w.from.ensures w.from-then-d-n.ensures w.from-then-d-n-2.ensures w.eligible.ensures).yes w.if-eligible.true))
       | else-d-n w ↦ rw w.w-is
           (below_skip l.j l.invariant
           (elim w.else-d-n.branch [
             | else-d-n-via-then-d-n+else-eligible v ↦
-                (open_says a.target.now a.n a.issuer.now a.audience.now a.subject.now a.revokers.now a.excluded.now l.j c.wide-d.result v.wide.result v.wide-then-d-n.result v.wide-then-d-n-2.result c.wide-d.ensures v.if-d-n.true
-                v.wide.ensures v.wide-then-d-n.ensures v.wide-then-d-n-2.ensures v.eligible.ensures).no v.if-eligible.false
-            | else-d-n-via-else-d-n v ↦ λ o. omega (arith, o.held, c.wide-d.ensures, v.if-d-n.false)
+                (open_says a.target.now a.n a.issuer.now a.audience.now a.subject.now a.revokers.now a.excluded.now l.j c.from-d.result v.from.result v.from-then-d-n.result v.from-then-d-n-2.result c.from-d.ensures v.if-d-n.true
+                v.from.ensures v.from-then-d-n.ensures v.from-then-d-n-2.ensures v.eligible.ensures).no v.if-eligible.false
+            | else-d-n-via-else-d-n v ↦ λ o. omega (arith, o.held, c.from-d.ensures, v.if-d-n.false)
           ]))
     ]

@@ -1,39 +1,31 @@
--- `answers::level_of` meets its contract: each arm settles the byte, and the byte settles the level.
-use Prim.Native.Nat.{ℕ, ◌≤◌}
-use mathlib.Core.Path.{◌≡◌, subst, sym}
+-- `answers::level_of` meets its contract: 0 is no level, and any other byte is one more than its level's rank.
+use Prim.Native.Nat.{ℕ, zero, suc, ◌-◌, ◌<◌}
+use mathlib.Core.Path.{◌≡◌, refl, subst}
 use native.Mathlib.Omega.{arith}
+use Rattle.std.specs.Prelude.{Some}
 use Rattle.rules.specs.Rows.{level_of}
-use Rattle.power_levels.specs.declared.power.Power.{Power}
-use Rattle.power_levels.specs.declared.power.Power.TheVariants.{Relay, Read, Edit, Admin}
-use Rattle.std.specs.Prelude.{Option}
+use Rattle.power_levels.specs.Power.{rank_of, at_rank, level_count}
 use Rattle.answers.specs.Answers.{LevelIs, level, no_level}
 use Rattle.answers.proofs.answer.level_of.Goals as goal
 
-at : {b n : ℕ} {p : Option Power} → b ≡ n → LevelIs (level_of n) p → LevelIs (level_of b) p
-at {p = p} e h = subst (λ x. LevelIs (level_of x) p) (sym e) h
+rank_at : (r : ℕ) → r < level_count → rank_of (at_rank r) ≡ r
+unfolding at_rank
+rank_at zero h = refl
+rank_at (suc zero) h = refl
+rank_at (suc (suc zero)) h = refl
+rank_at (suc (suc (suc zero))) h = refl
+rank_at (suc (suc (suc (suc r)))) h = absurd (omega arith)
 
-last : (b : ℕ) → b ≤ 4 → ¬ (b ≡ 0) → ¬ (b ≡ 1) → ¬ (b ≡ 2) → ¬ (b ≡ 3) → b ≡ 4
-last b h p q r s = omega arith
+ranked : (r : ℕ) → r < level_count → LevelIs (level_of (suc r)) (Some (at_rank r))
+unfolding level_of
+ranked r h = subst (λ (x : ℕ). LevelIs (level_of (suc x)) (Some (at_rank r))) (rank_at r h) (level (at_rank r))
 
 pub returns-in-0 : goal.returns-in-0
 unfolding level_of
-returns-in-0 c = at c.in-0.is no_level
-
-pub returns-in-1 : goal.returns-in-1
-unfolding level_of
-returns-in-1 c = at c.in-1.is (level Relay)
-
-pub returns-in-2 : goal.returns-in-2
-unfolding level_of
-returns-in-2 c = at c.in-2.is (level Read)
-
-pub returns-in-3 : goal.returns-in-3
-unfolding level_of
-returns-in-3 c = at c.in-3.is (level Edit)
+returns-in-0 c = rw c.in-0.is no_level
 
 pub returns-in_default : goal.returns-in_default
-unfolding level_of
 returns-in_default c =
-    let b = c.args.byte in
-    let d = c.in_default in
-    at {b = b} {n = 4} (last b c.requires (omega arith) (omega arith) (omega arith) (omega arith)) (level Admin)
+    let r = c.args.byte - 1 in
+    let e : suc r ≡ c.args.byte = omega arith in
+    rw c.from_rank.ensures (subst (λ (b : ℕ). LevelIs (level_of b) (Some (at_rank r))) e (ranked r (omega (arith, c.requires))))

@@ -27,27 +27,27 @@ loop-j-preserved c =
     let excluded = c.args.excluded.now in
     let l = c.loop-j in
     let G = l.invariant in
-    let net_is = ap (λ (z : ℕ). get_or excluded z 0) (sym c.wide-d.ensures) in
+    let net_is = ap (λ (z : ℕ). get_or excluded z 0) (sym c.from-d.ensures) in
     elim c.if-d-facts.branch [
       | then-d-facts+then-w-ne0+then-c-count w ↦
-          let S = subst (λ (z : ℕ). Sought l.exclude l.count (get_or excluded c.wide-d.result 0) z) (sym w.unwrap_or-c.ensures) w.find.ensures in
+          let S = subst (λ (z : ℕ). Sought l.exclude l.count (get_or excluded c.from-d.result 0) z) (sym w.unwrap_or-c.ensures) w.find.ensures in
           rw (w.count-is, w.exclude-is, w.members-is)
-          (grouping_more f.target excluded l.j f.delegations l.count l.exclude l.members G w.unwrap_or-c.result (get_or excluded c.wide-d.result 0)
-          w.with.result (l.count + 1) S (omega (arith, c.wide-d.ensures, w.if-d-facts.true)) net_is (omega (arith, w.if-w-ne0.true))
+          (grouping_more f.target excluded l.j f.delegations l.count l.exclude l.members G w.unwrap_or-c.result (get_or excluded c.from-d.result 0)
+          w.with.result (l.count + 1) S (omega (arith, c.from-d.ensures, w.if-d-facts.true)) net_is (omega (arith, w.if-w-ne0.true))
           (omega (arith, c.loop-j-test.true, c.args.facts.now.fit.revocations_le)) w.with.ensures.0 w.with.ensures.1 (omega (arith, w.if-c-count.true)) (omega arith)
           (λ i h. subst (λ (y : ℕ). (i < l.count) ⊎ (i ≡ y)) (sym w.if-c-count.true) (one_more l.count i h)) (omega (arith, G.grouped.count_le)))
       | then-d-facts+then-w-ne0+else-c-count w ↦
-          let S = subst (λ (z : ℕ). Sought l.exclude l.count (get_or excluded c.wide-d.result 0) z) (sym w.unwrap_or-c.ensures) w.find.ensures in
+          let S = subst (λ (z : ℕ). Sought l.exclude l.count (get_or excluded c.from-d.result 0) z) (sym w.unwrap_or-c.ensures) w.find.ensures in
           rw (w.count-is, w.exclude-is, w.members-is)
-          (grouping_more f.target excluded l.j f.delegations l.count l.exclude l.members G w.unwrap_or-c.result (get_or excluded c.wide-d.result 0)
-          w.with.result l.count S (omega (arith, c.wide-d.ensures, w.if-d-facts.true)) net_is (omega (arith, w.if-w-ne0.true))
+          (grouping_more f.target excluded l.j f.delegations l.count l.exclude l.members G w.unwrap_or-c.result (get_or excluded c.from-d.result 0)
+          w.with.result l.count S (omega (arith, c.from-d.ensures, w.if-d-facts.true)) net_is (omega (arith, w.if-w-ne0.true))
           (omega (arith, c.loop-j-test.true, c.args.facts.now.fit.revocations_le)) w.with.ensures.0 w.with.ensures.1 (omega (arith, w.if-c-count.false, S.le)) (omega arith)
           (λ i h. inl h) (omega (arith, G.grouped.count_le)))
       | then-d-facts+else-w-ne0 w ↦
           rw (w.count-is, w.exclude-is, w.members-is)
           (grouping_skip f.target excluded l.j f.delegations l.count l.exclude l.members G
-          (λ h p. let q = ap (λ (z : ℕ). get_or excluded z 0) c.wide-d.ensures in omega (arith, w.if-w-ne0.false)))
+          (λ h p. let q = ap (λ (z : ℕ). get_or excluded z 0) c.from-d.ensures in omega (arith, w.if-w-ne0.false)))
       | else-d-facts w ↦
           rw (w.count-is, w.exclude-is, w.members-is)
-          (grouping_skip f.target excluded l.j f.delegations l.count l.exclude l.members G (λ h p. omega (arith, c.wide-d.ensures, w.if-d-facts.false)))
+          (grouping_skip f.target excluded l.j f.delegations l.count l.exclude l.members G (λ h p. omega (arith, c.from-d.ensures, w.if-d-facts.false)))
     ]

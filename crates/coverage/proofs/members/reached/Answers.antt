@@ -1,6 +1,6 @@
 -- `coverage::members::reached` meets its contract. The loop's invariant: of the members that are no longer left, w has those whose delegation's issuer was found.
 use Rattle.search.proofs.Laws.Sets.{gathered_none, gathered_all, gathered_less}
-use Rattle.coverage.proofs.members.reached.Goals.{After-reached, After-wide-d}
+use Rattle.coverage.proofs.members.reached.Goals.{After-reached, After-from-d}
 use Rattle.coverage.proofs.members.reached.Goals as goal
 
 pub loop-left-init : goal.loop-left-init

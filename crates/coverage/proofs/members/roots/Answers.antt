@@ -1,6 +1,6 @@
 -- `coverage::members::roots` meets its contract. The loop's invariant: w has the subjects of those that are no longer left.
 use Rattle.coverage.proofs.Laws.Put.{passing_none, passing_all, left_less}
-use Rattle.coverage.proofs.members.roots.Goals.{After-wide-d}
+use Rattle.coverage.proofs.members.roots.Goals.{After-from-d}
 use Rattle.coverage.proofs.members.roots.Goals as goal
 
 pub loop-left-init : goal.loop-left-init

@@ -26,10 +26,10 @@ returns c =
     let K = c.requires.0 in
     let d = c.args.delegation.0 in
     let row = c.levels-row.result in
-    let q : EffectiveIs (places v.facts) (get_or v.facts.subject d 0) (get_or v.facts.issuer d 0) (level_of (get_or row c.wide-2.result 0)) =
-    subst (λ (z : ℕ). EffectiveIs (places v.facts) (get_or v.facts.subject d 0) z (level_of (get_or row c.wide-2.result 0))) c.wide-2.ensures
-    (subst (λ (z : ℕ). EffectiveIs (places v.facts) z c.wide-2.result (level_of (get_or row c.wide-2.result 0))) c.wide.ensures
-    (c.levels-row.ensures c.wide-2.result (omega (arith, c.wide-2.ensures, K.fit.issuer_lt d)))) in
+    let q : EffectiveIs (places v.facts) (get_or v.facts.subject d 0) (get_or v.facts.issuer d 0) (level_of (get_or row c.from-2.result 0)) =
+    subst (λ (z : ℕ). EffectiveIs (places v.facts) (get_or v.facts.subject d 0) z (level_of (get_or row c.from-2.result 0))) c.from-2.ensures
+    (subst (λ (z : ℕ). EffectiveIs (places v.facts) z c.from-2.result (level_of (get_or row c.from-2.result 0))) c.from.ensures
+    (c.levels-row.ensures c.from-2.result (omega (arith, c.from-2.ensures, K.fit.issuer_lt d)))) in
     subst (λ (z : ℕ). ConveyedIs (places v.facts) d (level_of z)) (sym c.min.ensures)
     (conveyed_plain v.facts v.grades K.grades d (omega (arith, c.if-grade-eq0.false)) (λ p. let z = live_net v.facts v.excluded K.excluded p in omega (arith, c.if-self-d-ne0.false))
-    (get_or row c.wide-2.result 0) q)
+    (get_or row c.from-2.result 0) q)

@@ -16,7 +16,7 @@ said g h P r e p = rw e p
 
 pub returns-then-digest-ne-DIGEST_LENGTH : goal.returns-then-digest-ne-DIGEST_LENGTH
 returns-then-digest-ne-DIGEST_LENGTH c =
-    (sym (look_bad c.args.digest.now _ (has (delegation_digests (committed c.args.store.now)) c.args.digest.now) c.if-digest-ne-DIGEST_LENGTH.true), refl, refl)
+    record { answer = sym (look_bad c.args.digest.now _ (has (delegation_digests (committed c.args.store.now)) c.args.digest.now) c.if-digest-ne-DIGEST_LENGTH.true); issuer = refl; payload = refl }
 
 pub slice_bounds-find-end : goal.slice_bounds-find-end
 slice_bounds-find-end c = sym c.args.store.now.good.delegations.digests.long
@@ -53,8 +53,13 @@ returns-then-at-n c =
     let h = c.if-at-n.true in
     let w : delegation_with (committed st) d ≡ delegation_at st.keys.table st.delegations at.0 = delegation_is st c.args.store.now.good d at.0 c.find-at.ensures h in
     let f : has (delegation_digests (committed st)) d ≡ true = sym (delegation_found st c.args.store.now.good d at.0 c.find-at.ensures) ∙ lt-ltb at.0 st.delegations.count h in
-    let p = rw c.row-row.ensures at c.put_delegation.ensures in
-    rw (f, w) (p.0 ∙ sym (look_there d _ c.if-digest-ne-DIGEST_LENGTH.false), p.1, p.2)
+    let e = c.row-row.ensures in
+    let p = c.put_delegation.ensures in
+    record {
+      answer = rw (f, w) ((rw e at p.answer) ∙ sym (look_there d _ c.if-digest-ne-DIGEST_LENGTH.false));
+      issuer = rw w (rw e at p.issuer);
+      payload = rw w (rw e at p.payload);
+    }
 
 pub returns : goal.returns
 returns c =
@@ -62,4 +67,4 @@ returns c =
     let d = c.args.digest.now in
     let at = c.find-at.result in
     let f : has (delegation_digests (committed st)) d ≡ false = sym (delegation_found st c.args.store.now.good d at.0 c.find-at.ensures) ∙ le-ltb at.0 st.delegations.count c.if-at-n.false in
-    rw f (sym (look_absent d _ c.if-digest-ne-DIGEST_LENGTH.false), refl, refl)
+    record { answer = rw f (sym (look_absent d _ c.if-digest-ne-DIGEST_LENGTH.false)); issuer = refl; payload = refl }

@@ -12,7 +12,7 @@ use Rattle.lookups.proofs.lookup.revocation.Goals as goal
 
 pub returns-then-digest-ne-DIGEST_LENGTH : goal.returns-then-digest-ne-DIGEST_LENGTH
 returns-then-digest-ne-DIGEST_LENGTH c =
-    (sym (look_bad c.args.digest.now _ (has (revocation_digests (committed c.args.store.now)) c.args.digest.now) c.if-digest-ne-DIGEST_LENGTH.true), refl, refl)
+    record { answer = sym (look_bad c.args.digest.now _ (has (revocation_digests (committed c.args.store.now)) c.args.digest.now) c.if-digest-ne-DIGEST_LENGTH.true); issuer = refl; revoked = refl }
 
 pub slice_bounds-find-end : goal.slice_bounds-find-end
 slice_bounds-find-end c = sym c.args.store.now.good.revocations.digests.long
@@ -38,8 +38,13 @@ returns-then-at-n c =
     let h = c.if-at-n.true in
     let w : revocation_with (committed st) d ≡ revocation_at st.keys.table st.revocations at.0 = revocation_is st c.args.store.now.good d at.0 c.find-at.ensures h in
     let f : has (revocation_digests (committed st)) d ≡ true = sym (revocation_found st c.args.store.now.good d at.0 c.find-at.ensures) ∙ lt-ltb at.0 st.revocations.count h in
-    let p = rw c.key_at-by.ensures at c.put_revocation.ensures in
-    rw (f, w) (p.0 ∙ sym (look_there d _ c.if-digest-ne-DIGEST_LENGTH.false), p.1, p.2)
+    let e = c.key_at-by.ensures in
+    let p = c.put_revocation.ensures in
+    record {
+      answer = rw (f, w) ((rw e at p.answer) ∙ sym (look_there d _ c.if-digest-ne-DIGEST_LENGTH.false));
+      issuer = rw w (rw e at p.issuer);
+      revoked = rw w p.revoked;
+    }
 
 pub returns : goal.returns
 returns c =
@@ -47,4 +52,4 @@ returns c =
     let d = c.args.digest.now in
     let at = c.find-at.result in
     let f : has (revocation_digests (committed st)) d ≡ false = sym (revocation_found st c.args.store.now.good d at.0 c.find-at.ensures) ∙ le-ltb at.0 st.revocations.count c.if-at-n.false in
-    rw f (sym (look_absent d _ c.if-digest-ne-DIGEST_LENGTH.false), refl, refl)
+    record { answer = rw f (sym (look_absent d _ c.if-digest-ne-DIGEST_LENGTH.false)); issuer = refl; revoked = refl }

@@ -1,9 +1,9 @@
 -- Both fits are tested, and both parts written.
-use Prim.Native.Nat.{◌+◌}
-use mathlib.Core.Path.{◌≡◌, refl, sym, ◌∙◌}
+use Prim.Native.Nat.{◌+◌, ◌*◌}
+use mathlib.Core.Path.{◌≡◌, refl, sym}
 use native.Mathlib.Omega.{arith}
 use lib.ListN.{length}
-use Rattle.runs.specs.Bytes.{run_at}
+use Rattle.runs.specs.Bytes.{run_length, run_at}
 use Rattle.runs.proofs.ByteLaws.{length_run}
 use Rattle.keyline.specs.Limits.{key_length, payload_length}
 use Rattle.tables.specs.Committed.{payload_of}
@@ -15,23 +15,23 @@ pub returns-then-issuer-lt-KEY_LENGTH : goal.returns-then-issuer-lt-KEY_LENGTH
 returns-then-issuer-lt-KEY_LENGTH c =
     let k = c.args.keys.now in
     let i = c.args.row.issuer.0 in
-    (sym (first_small (run_at k i) (payload_of (row_there k c.args.citations.now c.args.at c.args.row)) (length c.args.issuer.now) (length c.args.payload.now) key_length _ (length_run k i c.requires.issuer) refl c.if-issuer-lt-KEY_LENGTH.true), refl, refl)
+    record { answer = sym (first_small (run_at k i) (payload_of (row_there k c.args.citations.now c.args.at c.args.row)) (length c.args.issuer.now) (length c.args.payload.now) key_length _ (length_run k i c.requires.issuer) refl c.if-issuer-lt-KEY_LENGTH.true); issuer = refl; payload = refl }
 
 pub overflow_add-n : goal.overflow_add-n
-overflow_add-n c = let k = cited_le c.args.row.cited c.citation_length-n.result c.citation_length-n.ensures in omega arith
+overflow_add-n c = let k = cited_le c.args.row.cited c.from.result c.from.ensures in omega arith
 
 pub returns-then-payload-n : goal.returns-then-payload-n
 returns-then-payload-n c =
     let k = c.args.keys.now in
     let i = c.args.row.issuer.0 in
     let p = payload_of (row_there k c.args.citations.now c.args.at c.args.row) in
-    let l : length p ≡ payload_length + c.citation_length-n.result = payload_long k c.args.citations.now c.args.at c.args.row c.requires ∙ rw (← c.citation_length-n.ensures) in
-    (sym (second_small (run_at k i) p (length c.args.issuer.now) (length c.args.payload.now) key_length _ (length_run k i c.requires.issuer) l c.if-issuer-lt-KEY_LENGTH.false c.if-payload-n.true), refl, refl)
+    let l : length p ≡ payload_length + run_length * c.from.result = payload_long k c.args.citations.now c.args.at c.args.row c.requires c.from.result c.from.ensures in
+    record { answer = sym (second_small (run_at k i) p (length c.args.issuer.now) (length c.args.payload.now) key_length _ (length_run k i c.requires.issuer) l c.if-issuer-lt-KEY_LENGTH.false c.if-payload-n.true); issuer = refl; payload = refl }
 
 pub put_payload-requires : goal.put_payload-requires
 put_payload-requires c =
     let k = c.args.keys.now in
-    let l : length (payload_of (row_there k c.args.citations.now c.args.at c.args.row)) ≡ payload_length + c.citation_length-n.result = payload_long k c.args.citations.now c.args.at c.args.row c.requires ∙ rw (← c.citation_length-n.ensures) in
+    let l : length (payload_of (row_there k c.args.citations.now c.args.at c.args.row)) ≡ payload_length + run_length * c.from.result = payload_long k c.args.citations.now c.args.at c.args.row c.requires c.from.result c.from.ensures in
     let h = c.if-payload-n.false in
     (c.requires, omega arith)
 
@@ -40,5 +40,5 @@ returns c =
     let k = c.args.keys.now in
     let i = c.args.row.issuer.0 in
     let p = payload_of (row_there k c.args.citations.now c.args.at c.args.row) in
-    let l : length p ≡ payload_length + c.citation_length-n.result = payload_long k c.args.citations.now c.args.at c.args.row c.requires ∙ rw (← c.citation_length-n.ensures) in
-    (sym (both_fit (run_at k i) p (length c.args.issuer.now) (length c.args.payload.now) key_length _ (length_run k i c.requires.issuer) l c.if-issuer-lt-KEY_LENGTH.false c.if-payload-n.false), c.put_run.ensures, c.put_payload.ensures)
+    let l : length p ≡ payload_length + run_length * c.from.result = payload_long k c.args.citations.now c.args.at c.args.row c.requires c.from.result c.from.ensures in
+    record { answer = sym (both_fit (run_at k i) p (length c.args.issuer.now) (length c.args.payload.now) key_length _ (length_run k i c.requires.issuer) l c.if-issuer-lt-KEY_LENGTH.false c.if-payload-n.false); issuer = c.put_run.ensures; payload = c.put_payload.ensures }

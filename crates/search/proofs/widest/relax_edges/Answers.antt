@@ -24,8 +24,8 @@ pub loop-next-init : goal.loop-next-init
 loop-next-init c =
     let a = c.args in
     let R = (ready_of c.args.delegations.now c.args.exclude) in
-    chaining_start (gr (goal.at.loop-next-init c).Start) a.r a.u a.v a.buckets.now c.wide-next.result R (omega arith)
-    (subst (λ (z : ℕ). Last a.delegations.now.issuer.now a.delegations.now.subject.now a.delegations.now.count a.r a.u z) (sym c.wide-next.ensures) (R.indexed.start a.r a.u c.requires.0 c.requires.1))
+    chaining_start (gr (goal.at.loop-next-init c).Start) a.r a.u a.v a.buckets.now c.from-next.result R (omega arith)
+    (subst (λ (z : ℕ). Last a.delegations.now.issuer.now a.delegations.now.subject.now a.delegations.now.count a.r a.u z) (sym c.from-next.ensures) (R.indexed.start a.r a.u c.requires.0 c.requires.1))
 
 pub bounds-grades-d : goal.bounds-grades-d
 bounds-grades-d c = place (goal.at.bounds-grades-d c).In-loop-next
@@ -39,9 +39,9 @@ bounds-edges-d c = place (goal.at.bounds-edges-d c).In-loop-next
 pub loop-next-smaller : goal.loop-next-smaller
 loop-next-smaller c =
     chaining_less (gr (goal.at.loop-next-smaller c).Start) c.args.r c.args.u c.args.v c.args.buckets.now c.loop-next.buckets c.loop-next.next (c.loop-next.next - 1)
-    c.loop-next.invariant (one_less c.loop-next.next c.loop-next-test.true) _ c.wide-next-in-loop-next.result c.wide-next-in-loop-next.ensures c.relax.ensures
+    c.loop-next.invariant (one_less c.loop-next.next c.loop-next-test.true) _ c.from-next-in-loop-next.result c.from-next-in-loop-next.ensures c.relax.ensures
 
 pub loop-next-preserved : goal.loop-next-preserved
 loop-next-preserved c =
     chaining_more (gr (goal.at.loop-next-preserved c).Start) c.args.r c.args.u c.args.v c.args.buckets.now c.loop-next.buckets c.loop-next.next (c.loop-next.next - 1)
-    c.loop-next.invariant (one_less c.loop-next.next c.loop-next-test.true) _ c.wide-next-in-loop-next.result c.wide-next-in-loop-next.ensures c.relax.ensures
+    c.loop-next.invariant (one_less c.loop-next.next c.loop-next-test.true) _ c.from-next-in-loop-next.result c.from-next-in-loop-next.ensures c.relax.ensures
