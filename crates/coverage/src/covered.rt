@@ -11,12 +11,7 @@ ghost use Rattle.search.specs.Levels.{word};
 ghost use Rattle.coverage.specs.Arrays.{Filled};
 ghost use Rattle.coverage.specs.Coverage.{RevokersBy, Shared, Exclusion};
 
-<<<<<<< HEAD
-use places::{ADMIN, DELEGATION_LIMIT, KeyPlace, RELAY, REVOCATION_LIMIT, wide};
-=======
-use crate::Facts;
-use places::{ADMIN, DELEGATION_LIMIT, KeyPlace, RELAY};
->>>>>>> b4a5e7380c370f7fe051eeaf9c6024cd8751b159
+use places::{ADMIN, DELEGATION_LIMIT, KeyPlace, RELAY, REVOCATION_LIMIT};
 use search::Levels;
 
 // For each of the first n delegations the issuers of the revocations that name it, of which there are m. It takes the columns that it reads, as
@@ -31,17 +26,10 @@ pub fn revokers(
     ensures { RevokersBy revoker.now target.now m n result }
 {
     let mut words = [0u64; DELEGATION_LIMIT];
-<<<<<<< HEAD
     for j in 0..m {
-        let d = wide(target[j]);
+        let d = usize::from(target[j]);
         if d < n {
-            words[d] = keyset::with(words[d], wide(revoker[j]));
-=======
-    for j in 0..facts.revocations {
-        let d = usize::from(facts.target[j]);
-        if d < facts.delegations {
-            words[d] = keyset::with(words[d], usize::from(facts.revoker[j]));
->>>>>>> b4a5e7380c370f7fe051eeaf9c6024cd8751b159
+            words[d] = keyset::with(words[d], usize::from(revoker[j]));
         }
     }
     words
@@ -98,13 +86,8 @@ pub fn coverage(
     ensures { Filled n (λ d w. Exclusion (get_or revokers.now d 0) (get_or subject.now d 0) subjects found.now w) result }
 {
     let mut excluded = [0u64; DELEGATION_LIMIT];
-<<<<<<< HEAD
     for d in 0..n {
-        excluded[d] = exclusion(revokers[d], wide(subject[d]), subjects, found);
-=======
-    for d in 0..facts.delegations {
-        excluded[d] = exclusion(revokers[d], usize::from(facts.subject[d]), subjects, found);
->>>>>>> b4a5e7380c370f7fe051eeaf9c6024cd8751b159
+        excluded[d] = exclusion(revokers[d], usize::from(subject[d]), subjects, found);
     }
     excluded
 }

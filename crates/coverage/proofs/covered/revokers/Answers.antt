@@ -15,17 +15,9 @@ loop-j-preserved c =
     elim c.if-d-n.branch [
       | then-d-n w ↦
           rw w.words-is
-<<<<<<< HEAD
-          (revokers_more a.revoker.now a.target.now l.j a.n l.words l.invariant c.wide-d.result w.wide.result w.with.result
-          (sym c.wide-d.ensures) (sym w.wide.ensures) (omega (arith, w.if-d-n.true, c.requires.1)) w.with.ensures.0 w.with.ensures.1)
+          (revokers_more a.revoker.now a.target.now l.j a.n l.words l.invariant c.from-d.result w.from.result w.with.result
+          (sym c.from-d.ensures) (sym w.from.ensures) (omega (arith, w.if-d-n.true, c.requires.1)) w.with.ensures.0 w.with.ensures.1)
       | else-d-n w ↦
           rw w.words-is
-          (revokers_skip a.revoker.now a.target.now l.j a.n l.words l.invariant (omega (arith, c.wide-d.ensures, w.if-d-n.false)))
-=======
-          (revokers_more a.facts.now.revoker a.facts.now.target l.j a.facts.now.delegations l.words l.invariant c.from-d.result w.from.result w.with.result
-          (sym c.from-d.ensures) (sym w.from.ensures) (omega (arith, w.if-d-facts.true, c.args.facts.now.fit.delegations_le)) w.with.ensures.0 w.with.ensures.1)
-      | else-d-facts w ↦
-          rw w.words-is
-          (revokers_skip a.facts.now.revoker a.facts.now.target l.j a.facts.now.delegations l.words l.invariant (omega (arith, c.from-d.ensures, w.if-d-facts.false)))
->>>>>>> b4a5e7380c370f7fe051eeaf9c6024cd8751b159
+          (revokers_skip a.revoker.now a.target.now l.j a.n l.words l.invariant (omega (arith, c.from-d.ensures, w.if-d-n.false)))
     ]
