@@ -10,7 +10,8 @@ use store::Store;
 
 // All certificates: delegations ascending, then revocations ascending.
 pub fn certificates(store: &Store, out: &mut [u8]) -> Result<Counts, Refusal>
-    ensures { (result ≡ both_answer (certificate_delegations (committed store.now)) (certificate_revocations (committed store.now)) (length out.old)) × (out.new ≡ both_buffer result (certificate_delegations (committed store.now)) (certificate_revocations (committed store.now)) out.old) }
+    ensures answer { result ≡ both_answer (certificate_delegations (committed store.now)) (certificate_revocations (committed store.now)) (length out.old) }
+    ensures out { out.new ≡ both_buffer result (certificate_delegations (committed store.now)) (certificate_revocations (committed store.now)) out.old }
 {
     let on = crate::mark::all();
     let n = store.delegations.count;
@@ -28,7 +29,8 @@ pub fn certificates(store: &Store, out: &mut [u8]) -> Result<Counts, Refusal>
 
 // The subjects of held delegations.
 pub fn subjects(store: &Store, out: &mut [u8]) -> Result<usize, Refusal>
-    ensures { (result ≡ list_answer (subjects_of (committed store.now)) (length out.old)) × (out.new ≡ list_buffer result (subjects_of (committed store.now)) out.old) }
+    ensures answer { result ≡ list_answer (subjects_of (committed store.now)) (length out.old) }
+    ensures out { out.new ≡ list_buffer result (subjects_of (committed store.now)) out.old }
 {
     let n = store.delegations.count;
     let on = crate::mark::subjects(&store.delegations.subject, n);
@@ -39,7 +41,8 @@ pub fn subjects(store: &Store, out: &mut [u8]) -> Result<usize, Refusal>
 
 // The held revocations that name the target, which need not be held.
 pub fn revocations_of(store: &Store, target: &[u8], out: &mut [u8]) -> Result<usize, Refusal>
-    ensures { (result ≡ length_first target.now (list_answer (revocations_of (committed store.now) target.now) (length out.old))) × (out.new ≡ list_buffer result (revocations_of (committed store.now) target.now) out.old) }
+    ensures answer { result ≡ length_first target.now (list_answer (revocations_of (committed store.now) target.now) (length out.old)) }
+    ensures out { out.new ≡ list_buffer result (revocations_of (committed store.now) target.now) out.old }
 {
     if target.len() != DIGEST_LENGTH {
         return Err(Refusal::BadLength(target.len()));
@@ -57,7 +60,8 @@ pub fn delegations_to(
     audience: &[u8],
     out: &mut [u8],
 ) -> Result<usize, Refusal>
-    ensures { (result ≡ length_first subject.now (length_first audience.now (list_answer (delegations_to (committed store.now) subject.now audience.now) (length out.old)))) × (out.new ≡ list_buffer result (delegations_to (committed store.now) subject.now audience.now) out.old) }
+    ensures answer { result ≡ length_first subject.now (length_first audience.now (list_answer (delegations_to (committed store.now) subject.now audience.now) (length out.old))) }
+    ensures out { out.new ≡ list_buffer result (delegations_to (committed store.now) subject.now audience.now) out.old }
 {
     if subject.len() != KEY_LENGTH {
         return Err(Refusal::BadLength(subject.len()));

@@ -17,7 +17,8 @@ pub struct Counts {
 // How many items were written, each of 32 bytes.
 pub fn write_one(table: &[u8], c: Chosen, out: &mut [u8]) -> Result<usize, Refusal>
     requires { Stand table.now c }
-    ensures { (result ≡ list_answer (chosen_runs table.now c) (length out.old)) × (out.new ≡ list_buffer result (chosen_runs table.now c) out.old) }
+    ensures answer { result ≡ list_answer (chosen_runs table.now c) (length out.old) }
+    ensures out { out.new ≡ list_buffer result (chosen_runs table.now c) out.old }
 {
     let k = c.count;
     let n = RUN_LENGTH * k;
@@ -36,7 +37,8 @@ pub fn write_both<'a>(
     out: &mut [u8],
 ) -> Result<Counts, Refusal>
     requires { Stand table.now c × Stand other.now d }
-    ensures { (result ≡ both_answer (chosen_runs table.now c) (chosen_runs other.now d) (length out.old)) × (out.new ≡ both_buffer result (chosen_runs table.now c) (chosen_runs other.now d) out.old) }
+    ensures answer { result ≡ both_answer (chosen_runs table.now c) (chosen_runs other.now d) (length out.old) }
+    ensures out { out.new ≡ both_buffer result (chosen_runs table.now c) (chosen_runs other.now d) out.old }
 {
     let k = c.count;
     let l = d.count;

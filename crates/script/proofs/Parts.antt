@@ -13,7 +13,7 @@ use Rattle.wire.specs.Reply.{head_length, head_of}
 use Rattle.wire.specs.Request.{other_limit, header_length, request_of, first_part, second_part, third_part}
 use Rattle.wire.specs.declared.request.Request.{Request}
 use Rattle.wire.proofs.Reading.{first_lent, second_lent, third_lent}
-use Rattle.script.specs.Run.{room_in, zeros, inPlace, StateAnswers, StateReplied, state_replied, EvaluatedAnswers, EvaluatedReplied, evaluated_replied}
+use Rattle.script.specs.Run.{room_in, zeros, inPlace, Placed, placed, StateAnswers, StateReplied, state_replied, EvaluatedAnswers, EvaluatedReplied, evaluated_replied}
 use Rattle.tables.specs.Committed.{Committed}
 use Rattle.wire.specs.declared.operation.OfState.{OfState}
 use Rattle.wire.specs.declared.operation.OfEvaluated.{OfEvaluated}
@@ -53,49 +53,32 @@ take_zeros k n h =
     ap (λ (x : Bytes). take k x) (ap zeros (sym e) ∙ sym (replicate-append-replicate k (n - k) 0)) ∙ take_at (zeros k) (zeros (n - k)) k (length-replicate k 0)
 
 -- ---- a question's reply, from what the call left in the rooms
-pub state_back : (c : Committed) (x y o p q q' o₂ : Bytes) (what : OfState) (r : Reply) (n : ℕ)
-    → StateAnswers c x y (mid_of head_length (head_length + n - head_length) o) q what r p q' → length p ≡ n → head_length + n ≤ length o
-    → o₂ ≡ inPlace r (room_in n (put_mid head_length (head_length + n - head_length) o p)) q' → StateReplied c x y (room_in n o) q what o₂
-state_back c x y o p q q' o₂ what r n a l h e =
-    subst (λ z. StateReplied c x y (room_in n o) q what z) (sym (e ∙ ap (λ z. inPlace r z q') (room_back o p n l h)))
-    (state_replied (subst (λ z. StateAnswers c x y z q what r p q') (room_lent o n) a))
+pub reply_back : (A : Bytes → Reply → Bytes → Bytes → Type 0) (o p q o₂ : Bytes) (r : Reply) (n : ℕ)
+    → A (mid_of head_length (head_length + n - head_length) o) r p q → length p ≡ n → head_length + n ≤ length o
+    → o₂ ≡ inPlace r (room_in n (put_mid head_length (head_length + n - head_length) o p)) q → Placed (A (room_in n o)) o₂
+reply_back A o p q o₂ r n a l h e =
+    subst (λ z. Placed (A (room_in n o)) z) (sym (e ∙ ap (λ z. inPlace r z q) (room_back o p n l h)))
+    (placed (subst (λ z. A z r p q) (room_lent o n) a))
 
-pub evaluated_back : (c : Committed) (x y o p q q' o₂ : Bytes) (what : OfEvaluated) (r : Reply) (n : ℕ)
-    → EvaluatedAnswers c x y (mid_of head_length (head_length + n - head_length) o) q what r p q' → length p ≡ n → head_length + n ≤ length o
-    → o₂ ≡ inPlace r (room_in n (put_mid head_length (head_length + n - head_length) o p)) q' → EvaluatedReplied c x y (room_in n o) q what o₂
-evaluated_back c x y o p q q' o₂ what r n a l h e =
-    subst (λ z. EvaluatedReplied c x y (room_in n o) q what z) (sym (e ∙ ap (λ z. inPlace r z q') (room_back o p n l h)))
-    (evaluated_replied (subst (λ z. EvaluatedAnswers c x y z q what r p q') (room_lent o n) a))
+pub state_placed : {c : Committed} {x y p q o : Bytes} {what : OfState} → Placed (StateAnswers c x y p q what) o → StateReplied c x y p q what o
+state_placed (placed a) = state_replied a
+
+pub evaluated_placed : {c : Committed} {x y p q o : Bytes} {what : OfEvaluated} → Placed (EvaluatedAnswers c x y p q what) o → EvaluatedReplied c x y p q what o
+evaluated_placed (placed a) = evaluated_replied a
 
 -- the second room as it begins
-pub first_zeros : (k : ℕ) → k ≤ other_limit → mid_of 0 (k - 0) (zeros other_limit) ≡ zeros k
-first_zeros k h = let e : k - 0 ≡ k = omega arith in rw e (take_zeros k other_limit h)
-
-pub state_zeros : {c : Committed} {x y p o : Bytes} {what : OfState} (k : ℕ) → k ≤ other_limit → StateReplied c x y p (mid_of 0 (k - 0) (zeros other_limit)) what o
-    → StateReplied c x y p (zeros k) what o
-state_zeros {c} {x} {y} {p} {o} {what} k h t = subst (λ z. StateReplied c x y p z what o) (first_zeros k h) t
-
-pub evaluated_zeros : {c : Committed} {x y p o : Bytes} {what : OfEvaluated} (k : ℕ) → k ≤ other_limit
-    → EvaluatedReplied c x y p (mid_of 0 (k - 0) (zeros other_limit)) what o → EvaluatedReplied c x y p (zeros k) what o
-evaluated_zeros {c} {x} {y} {p} {o} {what} k h t = subst (λ z. EvaluatedReplied c x y p z what o) (first_zeros k h) t
+pub first_zeros : (k : ℕ) → k ≤ other_limit → mid_of 0 k (zeros other_limit) ≡ zeros k
+first_zeros k h = take_zeros k other_limit h
 
 -- ---- the same with the arguments as they are lent
 module _ (q : Request) (s : Bytes) (e : q ≡ request_of s) where
-  pub state_asked : {c : Committed} {p o : Bytes} {what : OfState} → q.other ≤ other_limit
-      → StateReplied c (mid_of header_length (header_length + q.first - header_length) s) (mid_of (header_length + q.first) (header_length + q.first + q.second - (header_length + q.first)) s) p (mid_of 0 (q.other - 0) (zeros other_limit)) what o
-      → StateReplied c (first_part s) (second_part s) p (zeros q.other) what o
-  state_asked {c} {p} {o} {what} h t =
-      subst (λ x. StateReplied c x (second_part s) p (zeros q.other) what o) (first_lent q s e)
-      (subst (λ y. StateReplied c (mid_of header_length (header_length + q.first - header_length) s) y p (zeros q.other) what o) (second_lent q s e)
-      (state_zeros q.other h t))
-
-  pub evaluated_asked : {c : Committed} {p o : Bytes} {what : OfEvaluated} → q.other ≤ other_limit
-      → EvaluatedReplied c (mid_of header_length (header_length + q.first - header_length) s) (mid_of (header_length + q.first) (header_length + q.first + q.second - (header_length + q.first)) s) p (mid_of 0 (q.other - 0) (zeros other_limit)) what o
-      → EvaluatedReplied c (first_part s) (second_part s) p (zeros q.other) what o
-  evaluated_asked {c} {p} {o} {what} h t =
-      subst (λ x. EvaluatedReplied c x (second_part s) p (zeros q.other) what o) (first_lent q s e)
-      (subst (λ y. EvaluatedReplied c (mid_of header_length (header_length + q.first - header_length) s) y p (zeros q.other) what o) (second_lent q s e)
-      (evaluated_zeros q.other h t))
+  pub reply_asked : (A : Bytes → Bytes → Bytes → Reply → Bytes → Bytes → Type 0) {o : Bytes} → q.other ≤ other_limit
+      → Placed (A (mid_of header_length (header_length + q.first - header_length) s) (mid_of (header_length + q.first) (header_length + q.first + q.second - (header_length + q.first)) s) (mid_of 0 q.other (zeros other_limit))) o
+      → Placed (A (first_part s) (second_part s) (zeros q.other)) o
+  reply_asked A {o} h t =
+      subst (λ x. Placed (A x (second_part s) (zeros q.other)) o) (first_lent q s e)
+      (subst (λ y. Placed (A (mid_of header_length (header_length + q.first - header_length) s) y (zeros q.other)) o) (second_lent q s e)
+      (subst (λ z. Placed (A (mid_of header_length (header_length + q.first - header_length) s) (mid_of (header_length + q.first) (header_length + q.first + q.second - (header_length + q.first)) s) z) o) (first_zeros q.other h) t))
 
   -- what holds of the three arguments as they are lent
   pub as_asked : (P : Bytes → Bytes → Bytes → Type 0)

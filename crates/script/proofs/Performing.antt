@@ -190,8 +190,8 @@ module _ {s o₀ o : Bytes} {state : State} {evaluated : Evaluated} {at done : �
   worked {anew} {y} e g h n r =
       advance s o₀ o state evaluated at done i state anew y q x g n
       (subst (λ k. Replied (held_in state) (held_by evaluated) (first_part (mid_of at (length s - at) s)) (second_part (mid_of at (length s - at) s)) (third_part (mid_of at (length s - at) s)) (room_in q.room (mid_of done (done_after done q - done) o)) (zeros q.other) k (held_in state) (held_by anew) y) (sym e)
-      (subst (λ d. Replied (held_in state) (held_by evaluated) (first_part (mid_of at (length s - at) s)) (second_part (mid_of at (length s - at) s)) (third_part (mid_of at (length s - at) s)) (room_in q.room (mid_of done (done_after done q - done) o)) (zeros q.other) operation.Evaluate (held_in state) d y) (sym h)
-      (subst (λ b. Replied (held_in state) (held_by evaluated) (first_part (mid_of at (length s - at) s)) (second_part (mid_of at (length s - at) s)) (third_part (mid_of at (length s - at) s)) (room_in q.room (mid_of done (done_after done q - done) o)) (zeros q.other) operation.Evaluate (held_in state) (held_in state) b) (sym r) run.evaluate)))
+      (subst (λ d. Replied (held_in state) (held_by evaluated) (first_part (mid_of at (length s - at) s)) (second_part (mid_of at (length s - at) s)) (third_part (mid_of at (length s - at) s)) (room_in q.room (mid_of done (done_after done q - done) o)) (zeros q.other) (Some operation.Evaluate) (held_in state) d y) (sym h)
+      (subst (λ b. Replied (held_in state) (held_by evaluated) (first_part (mid_of at (length s - at) s)) (second_part (mid_of at (length s - at) s)) (third_part (mid_of at (length s - at) s)) (room_in q.room (mid_of done (done_after done q - done) o)) (zeros q.other) (Some operation.Evaluate) (held_in state) (held_in state) b) (sym r) run.evaluate)))
 
   pub asked_state : {y : Bytes} {w : OfState} → q.operation ≡ Some (operation.OfState w) → length y ≡ needs q
       → StateReplied (held_in state) (first_part (mid_of at (length s - at) s)) (second_part (mid_of at (length s - at) s)) (room_in q.room (mid_of done (done_after done q - done) o)) (zeros q.other) w y

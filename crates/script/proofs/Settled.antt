@@ -18,7 +18,7 @@ use Rattle.wire.specs.declared.operation.OfState.{OfState}
 use Rattle.wire.specs.declared.operation.OfEvaluated.{OfEvaluated}
 use Rattle.wire.specs.declared.operation.Change.{Change}
 use Rattle.wire.specs.declared.reply.Reply.{Reply}
-use Rattle.std.specs.Prelude.{Result}
+use Rattle.std.specs.Prelude.{Result, Option}
 
 -- ## One request
 pub record SameChange (r r' : Reply) (d d' : Committed) : Type 0 where
@@ -67,7 +67,7 @@ pub record SameStep (d d' f f' : Committed) (o o' : Bytes) : Type 0 where
   pub evaluated : f ≡ f'
   pub out : o ≡ o'
 
-pub step : {c e : Committed} {x y z p q : Bytes} {w : Operation} {d d' f f' : Committed} {o o' : Bytes}
+pub step : {c e : Committed} {x y z p q : Bytes} {w : Option Operation} {d d' f f' : Committed} {o o' : Bytes}
     → Replied c e x y z p q w d f o → Replied c e x y z p q w d' f' o' → SameStep d d' f f' o o'
 step (run.changed (change_replied a)) (run.changed (change_replied b)) = let s = change a b in record { set = s.set; evaluated = refl; out = rw s.reply }
 step run.evaluate run.evaluate = record { set = refl; evaluated = refl; out = refl }

@@ -74,6 +74,10 @@ room_in n out = take n (drop head_length out)
 abbrev pub inPlace : Reply → Bytes → Bytes → Bytes
 inPlace r p q = head_of r ++ p ++ q
 
+-- a reply in its place, with its rooms as A says that they are afterwards
+pub data Placed (A : Reply → Bytes → Bytes → Type 0) : Bytes → Type 0 where
+  placed : {r : Reply} {p q : Bytes} → A r p q → Placed A (inPlace r p q)
+
 pub data StateReplied (c : Committed) (x y p q : Bytes) (what : OfState) : Bytes → Type 0 where
   state_replied : {r : Reply} {p' q' : Bytes} → StateAnswers c x y p q what r p' q' → StateReplied c x y p q what (inPlace r p' q')
 

@@ -1,5 +1,7 @@
 // Each operation as a call of State or Evaluated on the request's arguments and rooms.
-ghost use Rattle.std.specs.Prelude.{◌≡◌, ◌≤◌, length};
+ghost use Rattle.std.specs.Prelude.{◌≡◌, ◌≤◌, length, ⊤};
+ghost use Rattle.runs.specs.Bytes.{Bytes};
+ghost use Rattle.wire.specs.declared.reply.Reply.{Reply};
 ghost use Rattle.keyline_memory.specs.State.{held_in, Insertion};
 ghost use Rattle.queries.specs.Evaluated.{held_by, GoodEvaluated};
 ghost use Rattle.tables.specs.Insertion.{delegation_answer, delegation_added, revocation_answer, revocation_added};
@@ -36,54 +38,83 @@ pub fn insert_revocation(state: &mut State, q: Request, script: &[u8]) -> Result
     state.insert_revocation(&script[HEADER..a], &script[a..b], &script[b..c])
 }
 
-// Questions put to the set, with two rooms.
-pub fn ask_state(
-    state: &State,
-    what: OfState,
-    x: &[u8],
-    y: &[u8],
-    room: &mut [u8],
-    other: &mut [u8],
-) -> Reply
-    ensures { StateAnswers (held_in state.now) x.now y.now room.old other.old what result room.new other.new }
-{
-    match what {
-        OfState::Version => {
-            let n = state.version();
-            reply::valued(n as usize)
+// What questions are put to, each with two arguments and two rooms.
+pub trait Answer {
+    // What may be asked.
+    type Question;
+
+    // Whether questions may be put.
+    ghost good: { Self → Type 0 };
+
+    // The question, the arguments and the rooms; then the reply, and the rooms afterwards.
+    ghost answers: { Self → Self.Question → Bytes → Bytes → Bytes → Bytes → Reply → Bytes → Bytes → Type 0 };
+
+    fn answer(
+        &self,
+        what: Self::Question,
+        x: &[u8],
+        y: &[u8],
+        room: &mut [u8],
+        other: &mut [u8],
+    ) -> Reply
+        requires { good self.now }
+        ensures { answers self.now what x.now y.now room.old other.old result room.new other.new };
+}
+
+impl Answer for State {
+    type Question = OfState;
+
+    ghost good = { λ _. ⊤ };
+
+    ghost answers = { λ s what x y p q. StateAnswers (held_in s) x y p q what };
+
+    fn answer(
+        &self,
+        what: OfState,
+        x: &[u8],
+        y: &[u8],
+        room: &mut [u8],
+        other: &mut [u8],
+    ) -> Reply {
+        match what {
+            OfState::Version => reply::valued(self.version() as usize),
+            OfState::Len => reply::valued(self.len()),
+            OfState::IsEmpty => reply::flagged(self.is_empty()),
+            OfState::ContainsDelegation => Reply::from(self.contains_delegation(x)),
+            OfState::ContainsRevocation => Reply::from(self.contains_revocation(x)),
+            OfState::Delegation => Reply::from(self.delegation(x, room, other)),
+            OfState::Revocation => Reply::from(self.revocation(x, room, other)),
+            OfState::Subjects => Reply::from(self.subjects(room)),
+            OfState::RevocationsOf => Reply::from(self.revocations_of(x, room)),
+            OfState::DelegationsTo => Reply::from(self.delegations_to(x, y, room)),
+            OfState::Certificates => Reply::from(self.certificates(room)),
         }
-        OfState::Len => reply::valued(state.len()),
-        OfState::IsEmpty => reply::flagged(state.is_empty()),
-        OfState::ContainsDelegation => reply::contained(state.contains_delegation(x)),
-        OfState::ContainsRevocation => reply::contained(state.contains_revocation(x)),
-        OfState::Delegation => reply::looked(state.delegation(x, room, other)),
-        OfState::Revocation => reply::looked(state.revocation(x, room, other)),
-        OfState::Subjects => reply::listed(state.subjects(room)),
-        OfState::RevocationsOf => reply::listed(state.revocations_of(x, room)),
-        OfState::DelegationsTo => reply::listed(state.delegations_to(x, y, room)),
-        OfState::Certificates => reply::both_listed(state.certificates(room)),
     }
 }
 
-// Questions put to the evaluated set, with two rooms.
-pub fn ask_evaluated(
-    evaluated: &Evaluated,
-    what: OfEvaluated,
-    x: &[u8],
-    y: &[u8],
-    room: &mut [u8],
-    other: &mut [u8],
-) -> Reply
-    requires { GoodEvaluated evaluated.now }
-    ensures { EvaluatedAnswers (held_by evaluated.now) x.now y.now room.old other.old what result room.new other.new }
-{
-    match what {
-        OfEvaluated::PositivePower => reply::powered(evaluated.positive_power(x, y)),
-        OfEvaluated::EffectivePower => reply::powered(evaluated.effective_power(x, y)),
-        OfEvaluated::Members => reply::listed(evaluated.members(x, room, other)),
-        OfEvaluated::IsLive => reply::lived(evaluated.is_live(x)),
-        OfEvaluated::ConveyedPower => reply::powered(evaluated.conveyed_power(x)),
-        OfEvaluated::Standing => reply::stood(evaluated.standing(x)),
-        OfEvaluated::Closure => reply::both_listed(evaluated.closure(x, room)),
+impl Answer for Evaluated {
+    type Question = OfEvaluated;
+
+    ghost good = { GoodEvaluated };
+
+    ghost answers = { λ e what x y p q. EvaluatedAnswers (held_by e) x y p q what };
+
+    fn answer(
+        &self,
+        what: OfEvaluated,
+        x: &[u8],
+        y: &[u8],
+        room: &mut [u8],
+        other: &mut [u8],
+    ) -> Reply {
+        match what {
+            OfEvaluated::PositivePower => Reply::from(self.positive_power(x, y)),
+            OfEvaluated::EffectivePower => Reply::from(self.effective_power(x, y)),
+            OfEvaluated::Members => Reply::from(self.members(x, room, other)),
+            OfEvaluated::IsLive => Reply::from(self.is_live(x)),
+            OfEvaluated::ConveyedPower => Reply::from(self.conveyed_power(x)),
+            OfEvaluated::Standing => Reply::from(self.standing(x)),
+            OfEvaluated::Closure => Reply::from(self.closure(x, room)),
+        }
     }
 }

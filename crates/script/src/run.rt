@@ -67,10 +67,10 @@ fn perform(script: &[u8], answers: &mut [u8])
                 answer::answer_done(q, &mut answers[from..done]);
             }
             Some(Operation::OfState(asked)) => {
-                answer::answer_state(&state, asked, q, &script[start..], &mut answers[from..done]);
+                answer::answer_asked(&state, asked, q, &script[start..], &mut answers[from..done]);
             }
             Some(Operation::OfEvaluated(asked)) => {
-                answer::answer_evaluated(
+                answer::answer_asked(
                     &evaluated,
                     asked,
                     q,

@@ -98,4 +98,4 @@ returns-in-Some c =
     closure_answer s.store.now g.store s.evaluation.now.facts g.facts c.in-Some.s.0 a.within c.nodes-nodes.result c.nodes-nodes.ensures
     c.in_nodes-dels.result c.naming-revs.result c.in_nodes-dels.ensures c.naming-revs.ensures
     c.choose-a.result c.choose-b.result c.choose-a.ensures c.choose-b.ensures
-    a.long a.is c.write_both.ensures.0 c.write_both.ensures.1
+    a.long a.is c.write_both.ensures.answer c.write_both.ensures.out

@@ -43,4 +43,4 @@ returns c =
     let f : chosen_runs st.revocations.digests c.choose-d.result ≡ certificate_revocations (committed st) =
     rows_chosen revocation_limit st.revocations.digests st.revocations.count c.args.store.now.good.revocations.digests (omega arith) on c.choose-d.result c.choose-d.ensures
     (revocation_at st.keys.table st.revocations) (λ r. r.digest) all (λ i h. m i (omega arith)) (λ i h. refl) in
-    rw (← e, ← f) c.write_both.ensures
+    record { answer = rw (← e, ← f) c.write_both.ensures.answer; out = rw (← e, ← f) c.write_both.ensures.out }

@@ -20,11 +20,11 @@ both e f = rw (e, f)
 
 pub returns-then-subject-ne-KEY_LENGTH : goal.returns-then-subject-ne-KEY_LENGTH
 unfolding length_first
-returns-then-subject-ne-KEY_LENGTH c = (rw (ne_eqb _ _ c.if-subject-ne-KEY_LENGTH.true), refl)
+returns-then-subject-ne-KEY_LENGTH c = record { answer = rw (ne_eqb _ _ c.if-subject-ne-KEY_LENGTH.true); out = refl }
 
 pub returns-then-audience-ne-KEY_LENGTH : goal.returns-then-audience-ne-KEY_LENGTH
 unfolding length_first
-returns-then-audience-ne-KEY_LENGTH c = (rw (eq-eqb _ _ c.if-subject-ne-KEY_LENGTH.false, ne_eqb _ _ c.if-audience-ne-KEY_LENGTH.true), refl)
+returns-then-audience-ne-KEY_LENGTH c = record { answer = rw (eq-eqb _ _ c.if-subject-ne-KEY_LENGTH.false, ne_eqb _ _ c.if-audience-ne-KEY_LENGTH.true); out = refl }
 
 pub slice_bounds-find-end : goal.slice_bounds-find-end
 slice_bounds-find-end c = sym c.args.store.now.good.keys.long
@@ -72,4 +72,4 @@ returns c =
     ∙ both (ap (λ (p : ℕ). eqb (get_or st.delegations.subject i 0) p) c.find-i.ensures ∙ same_place key_limit k m c.args.store.now.good.keys (get_or st.delegations.subject i 0) (d.subject.held i h) x)
     (ap (λ (p : ℕ). eqb (get_or st.delegations.audience i 0) p) c.find-j.ensures ∙ same_place key_limit k m c.args.store.now.good.keys (get_or st.delegations.audience i 0) (d.audience.held i h) y))
     (λ i h. refl) in
-    rw (eq-eqb _ _ c.if-subject-ne-KEY_LENGTH.false, eq-eqb _ _ c.if-audience-ne-KEY_LENGTH.false, ← e) c.write_one.ensures
+    record { answer = rw (eq-eqb _ _ c.if-subject-ne-KEY_LENGTH.false, eq-eqb _ _ c.if-audience-ne-KEY_LENGTH.false, ← e) c.write_one.ensures.answer; out = rw (← e) c.write_one.ensures.out }

@@ -13,7 +13,7 @@ use Rattle.lists.proofs.lists.revocations_of.Goals as goal
 
 pub returns-then-target-ne-DIGEST_LENGTH : goal.returns-then-target-ne-DIGEST_LENGTH
 unfolding length_first
-returns-then-target-ne-DIGEST_LENGTH c = (rw (ne_eqb _ _ c.if-target-ne-DIGEST_LENGTH.true), refl)
+returns-then-target-ne-DIGEST_LENGTH c = record { answer = rw (ne_eqb _ _ c.if-target-ne-DIGEST_LENGTH.true); out = refl }
 
 pub slice_bounds-naming-end : goal.slice_bounds-naming-end
 slice_bounds-naming-end c = sym c.args.store.now.good.revocations.revoked
@@ -37,4 +37,4 @@ returns c =
     let e : chosen_runs st.revocations.digests c.choose-c.result ≡ revocations_of (committed st) x =
     rows_chosen revocation_limit st.revocations.digests st.revocations.count c.args.store.now.good.revocations.digests (omega arith) c.naming-on.result c.choose-c.result c.choose-c.ensures
     (revocation_at st.keys.table st.revocations) (λ r. r.digest) (names x) c.naming-on.ensures.1 (λ i h. refl) in
-    rw (eq-eqb _ _ c.if-target-ne-DIGEST_LENGTH.false, ← e) c.write_one.ensures
+    record { answer = rw (eq-eqb _ _ c.if-target-ne-DIGEST_LENGTH.false, ← e) c.write_one.ensures.answer; out = rw (← e) c.write_one.ensures.out }

@@ -34,4 +34,4 @@ returns c =
     let e : chosen_runs st.keys.table c.choose-c.result ≡ subjects_of (committed st) =
     keys_chosen key_limit st.keys.table st.keys.count c.args.store.now.good.keys (omega arith) c.subjects-on.result c.choose-c.result c.choose-c.ensures
     (delegation_at st.keys.table st.delegations) (λ g. g.subject) st.delegations.count st.delegations.subject (omega arith) p.held c.subjects-on.ensures.1 (λ i h. refl) in
-    rw (← e) c.write_one.ensures
+    record { answer = rw (← e) c.write_one.ensures.answer; out = rw (← e) c.write_one.ensures.out }

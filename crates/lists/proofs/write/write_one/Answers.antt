@@ -7,9 +7,9 @@ use Rattle.lists.proofs.write.write_one.Goals as goal
 pub returns-then-out-n : goal.returns-then-out-n
 unfolding list_answer
 returns-then-out-n c =
-    (rw (chosen_long c.args.table.now c.args.c c.requires, lt-ltb _ _ c.if-out-n.true), refl)
+    record { answer = rw (chosen_long c.args.table.now c.args.c c.requires, lt-ltb _ _ c.if-out-n.true); out = refl }
 
 pub returns : goal.returns
 unfolding list_answer
 returns c =
-    (rw (chosen_long c.args.table.now c.args.c c.requires, le-ltb _ _ c.if-out-n.false), c.put_runs.ensures)
+    record { answer = rw (chosen_long c.args.table.now c.args.c c.requires, le-ltb _ _ c.if-out-n.false); out = c.put_runs.ensures }

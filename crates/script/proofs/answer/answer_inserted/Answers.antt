@@ -5,4 +5,4 @@ use Rattle.script.proofs.answer.answer_inserted.Goals as goal
 
 pub returns : goal.returns
 returns c =
-    c.answer_plain.ensures ∙ ap (λ r. inPlace r (room_in c.args.q.room c.args.out.now) (zeros c.args.q.other)) c.inserted.ensures
+    c.answer_plain.ensures ∙ ap (λ r. inPlace r (room_in c.args.q.room c.args.out.now) (zeros c.args.q.other)) c.from.ensures

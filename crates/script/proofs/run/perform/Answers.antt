@@ -1,16 +1,16 @@
 -- Request by request: each reply is put behind those before it. In the proof of a need, l is the loop as its turn began and q the request
 -- that was read in it.
 use Prim.Native.Nat.{◌-◌}
-use mathlib.Core.Path.{refl, sym, ap, ◌∙◌, subst}
+use mathlib.Core.Path.{sym, ap, ◌∙◌, subst}
 use native.Mathlib.Omega.{arith}
 use lib.ListN.{length, length-drop}
-use Rattle.tables.specs.Insertion.{is_added}
 use Rattle.wire.specs.Request.{Script}
 use Rattle.wire.specs.declared.operation.Operation.TheVariants as operation
 use Rattle.std.specs.Prelude.{Some}
 use Rattle.script.specs.Run as run
 use Rattle.script.proofs.Measuring.{rest_lent}
 use Rattle.script.proofs.Performing.{begin, bounds, asked, renewed, inserted, worked, asked_state, asked_evaluated, says, ending}
+use Rattle.script.proofs.Parts.{state_placed, evaluated_placed}
 use Rattle.script.proofs.run.perform.Goals as goal
 
 pub loop-at-init : goal.loop-at-init
@@ -70,7 +70,7 @@ loop-at-smaller-in-New c = let l = c.loop-at in let q = c.next_request-q in let 
 pub loop-at-preserved-in-New : goal.loop-at-preserved-in-New
 loop-at-preserved-in-New c =
     let l = c.loop-at in let q = c.next_request-q in let a = asked l.invariant q.ensures in
-    renewed l.invariant q.ensures (c.in-Some-Change.is ∙ ap (λ w. Some (operation.Change w)) c.in-New.is) c.new-state-in-New.ensures (omega (arith, c.answers-1.given, a.long)) c.answer_done.ensures
+    renewed l.invariant q.ensures (c.in-Some-Change.is ∙ ap (λ w. Some w) (rw c.in-Some-Change.is at c.in-Some-Change.field-0-is) ∙ ap (λ w. Some (operation.Change w)) c.in-New.is) c.new-state-in-New.ensures (omega (arith, c.answers-1.given, a.long)) c.answer_done.ensures
 
 pub slice_bounds-insert_delegation-count : goal.slice_bounds-insert_delegation-count
 slice_bounds-insert_delegation-count c = let l = c.loop-at in let q = c.next_request-q in let b = bounds l.invariant q.ensures in let u = b.script in let v = b.answers in omega arith
@@ -102,7 +102,7 @@ loop-at-smaller-in-InsertDelegation c = let l = c.loop-at in let q = c.next_requ
 pub loop-at-preserved-in-InsertDelegation : goal.loop-at-preserved-in-InsertDelegation
 loop-at-preserved-in-InsertDelegation c =
     let l = c.loop-at in let q = c.next_request-q in let a = asked l.invariant q.ensures in let i = c.insert_delegation-told.ensures in
-    inserted l.invariant q.ensures run.insert_delegation i (c.in-Some-Change.is ∙ ap (λ w. Some (operation.Change w)) c.in-InsertDelegation.is) (omega (arith, c.answers-in-InsertDelegation-1.given, a.long)) c.answer_inserted.ensures
+    inserted l.invariant q.ensures run.insert_delegation i (c.in-Some-Change.is ∙ ap (λ w. Some w) (rw c.in-Some-Change.is at c.in-Some-Change.field-0-is) ∙ ap (λ w. Some (operation.Change w)) c.in-InsertDelegation.is) (omega (arith, c.answers-in-InsertDelegation-1.given, a.long)) c.answer_inserted.ensures
 
 pub slice_bounds-insert_revocation-count : goal.slice_bounds-insert_revocation-count
 slice_bounds-insert_revocation-count c = let l = c.loop-at in let q = c.next_request-q in let b = bounds l.invariant q.ensures in let u = b.script in let v = b.answers in omega arith
@@ -134,7 +134,7 @@ loop-at-smaller-in-InsertRevocation c = let l = c.loop-at in let q = c.next_requ
 pub loop-at-preserved-in-InsertRevocation : goal.loop-at-preserved-in-InsertRevocation
 loop-at-preserved-in-InsertRevocation c =
     let l = c.loop-at in let q = c.next_request-q in let a = asked l.invariant q.ensures in let i = c.insert_revocation-told.ensures in
-    inserted l.invariant q.ensures run.insert_revocation i (c.in-Some-Change.is ∙ ap (λ w. Some (operation.Change w)) c.in-InsertRevocation.is) (omega (arith, c.answers-in-InsertRevocation-1.given, a.long)) c.answer_inserted-in-InsertRevocation.ensures
+    inserted l.invariant q.ensures run.insert_revocation i (c.in-Some-Change.is ∙ ap (λ w. Some w) (rw c.in-Some-Change.is at c.in-Some-Change.field-0-is) ∙ ap (λ w. Some (operation.Change w)) c.in-InsertRevocation.is) (omega (arith, c.answers-in-InsertRevocation-1.given, a.long)) c.answer_inserted-in-InsertRevocation.ensures
 
 pub slice_bounds-answer_done-count-in-Some-Evaluate : goal.slice_bounds-answer_done-count-in-Some-Evaluate
 slice_bounds-answer_done-count-in-Some-Evaluate c = let l = c.loop-at in let q = c.next_request-q in let b = bounds l.invariant q.ensures in let u = b.script in let v = b.answers in omega arith
@@ -154,28 +154,28 @@ loop-at-smaller-in-Some-Evaluate c = let l = c.loop-at in let q = c.next_request
 pub loop-at-preserved-in-Some-Evaluate : goal.loop-at-preserved-in-Some-Evaluate
 loop-at-preserved-in-Some-Evaluate c =
     let l = c.loop-at in let q = c.next_request-q in let a = asked l.invariant q.ensures in
-    worked l.invariant q.ensures c.in-Some-Evaluate.is c.evaluate-evaluated-in-Some-Evaluate.ensures.good c.evaluate-evaluated-in-Some-Evaluate.ensures.held (omega (arith, c.answers-in-Some-Evaluate-1.given, a.long)) c.answer_done-in-Some-Evaluate.ensures
+    worked l.invariant q.ensures (c.in-Some-Evaluate.is ∙ ap (λ w. Some w) (rw c.in-Some-Evaluate.is at c.in-Some-Evaluate.field-0-is)) c.evaluate-evaluated-in-Some-Evaluate.ensures.good c.evaluate-evaluated-in-Some-Evaluate.ensures.held (omega (arith, c.answers-in-Some-Evaluate-1.given, a.long)) c.answer_done-in-Some-Evaluate.ensures
 
-pub slice_bounds-answer_state-count : goal.slice_bounds-answer_state-count
-slice_bounds-answer_state-count c = let l = c.loop-at in let q = c.next_request-q in let b = bounds l.invariant q.ensures in let u = b.script in let v = b.answers in omega arith
+pub slice_bounds-answer_asked-count : goal.slice_bounds-answer_asked-count
+slice_bounds-answer_asked-count c = let l = c.loop-at in let q = c.next_request-q in let b = bounds l.invariant q.ensures in let u = b.script in let v = b.answers in omega arith
 
-pub slice_bounds-answer_state-start : goal.slice_bounds-answer_state-start
-slice_bounds-answer_state-start c = let l = c.loop-at in let q = c.next_request-q in let b = bounds l.invariant q.ensures in let u = b.script in let v = b.answers in omega arith
+pub slice_bounds-answer_asked-start : goal.slice_bounds-answer_asked-start
+slice_bounds-answer_asked-start c = let l = c.loop-at in let q = c.next_request-q in let b = bounds l.invariant q.ensures in let u = b.script in let v = b.answers in omega arith
 
-pub slice_bounds-answer_state-end : goal.slice_bounds-answer_state-end
-slice_bounds-answer_state-end c = let l = c.loop-at in let q = c.next_request-q in let b = bounds l.invariant q.ensures in let u = b.script in let v = b.answers in omega arith
+pub slice_bounds-answer_asked-end : goal.slice_bounds-answer_asked-end
+slice_bounds-answer_asked-end c = let l = c.loop-at in let q = c.next_request-q in let b = bounds l.invariant q.ensures in let u = b.script in let v = b.answers in omega arith
 
-pub slice_bounds-answer_state-count-in-Some-OfState : goal.slice_bounds-answer_state-count-in-Some-OfState
-slice_bounds-answer_state-count-in-Some-OfState c = let l = c.loop-at in let q = c.next_request-q in let b = bounds l.invariant q.ensures in let u = b.script in let v = b.answers in omega arith
+pub slice_bounds-answer_asked-count-in-Some-OfState : goal.slice_bounds-answer_asked-count-in-Some-OfState
+slice_bounds-answer_asked-count-in-Some-OfState c = let l = c.loop-at in let q = c.next_request-q in let b = bounds l.invariant q.ensures in let u = b.script in let v = b.answers in omega arith
 
-pub slice_bounds-answer_state-start-in-Some-OfState : goal.slice_bounds-answer_state-start-in-Some-OfState
-slice_bounds-answer_state-start-in-Some-OfState c = let l = c.loop-at in let q = c.next_request-q in let b = bounds l.invariant q.ensures in let u = b.script in let v = b.answers in omega arith
+pub slice_bounds-answer_asked-start-in-Some-OfState : goal.slice_bounds-answer_asked-start-in-Some-OfState
+slice_bounds-answer_asked-start-in-Some-OfState c = let l = c.loop-at in let q = c.next_request-q in let b = bounds l.invariant q.ensures in let u = b.script in let v = b.answers in omega arith
 
-pub slice_bounds-answer_state-end-in-Some-OfState : goal.slice_bounds-answer_state-end-in-Some-OfState
-slice_bounds-answer_state-end-in-Some-OfState c = let l = c.loop-at in let q = c.next_request-q in let b = bounds l.invariant q.ensures in let u = b.script in let v = b.answers in omega arith
+pub slice_bounds-answer_asked-end-in-Some-OfState : goal.slice_bounds-answer_asked-end-in-Some-OfState
+slice_bounds-answer_asked-end-in-Some-OfState c = let l = c.loop-at in let q = c.next_request-q in let b = bounds l.invariant q.ensures in let u = b.script in let v = b.answers in omega arith
 
-pub answer_state-requires : goal.answer_state-requires
-answer_state-requires c = let l = c.loop-at in let q = c.next_request-q in asked l.invariant q.ensures
+pub answer_asked-requires : goal.answer_asked-requires
+answer_asked-requires c = let l = c.loop-at in let q = c.next_request-q in record { good = tt; fits = asked l.invariant q.ensures }
 
 pub loop-at-smaller-in-Some-OfState : goal.loop-at-smaller-in-Some-OfState
 loop-at-smaller-in-Some-OfState c = let l = c.loop-at in let q = c.next_request-q in let b = bounds l.invariant q.ensures in let u = b.script in let v = b.answers in omega arith
@@ -183,28 +183,28 @@ loop-at-smaller-in-Some-OfState c = let l = c.loop-at in let q = c.next_request-
 pub loop-at-preserved-in-Some-OfState : goal.loop-at-preserved-in-Some-OfState
 loop-at-preserved-in-Some-OfState c =
     let l = c.loop-at in let q = c.next_request-q in let a = asked l.invariant q.ensures in
-    asked_state l.invariant q.ensures c.in-Some-OfState.is (omega (arith, c.answers-in-Some-OfState-1.given, a.long)) c.answer_state.ensures
+    asked_state l.invariant q.ensures (c.in-Some-OfState.is ∙ ap (λ w. Some w) (rw c.in-Some-OfState.is at c.in-Some-OfState.field-0-is)) (omega (arith, c.answers-in-Some-OfState-1.given, a.long)) (state_placed c.answer_asked.ensures)
 
-pub slice_bounds-answer_evaluated-count : goal.slice_bounds-answer_evaluated-count
-slice_bounds-answer_evaluated-count c = let l = c.loop-at in let q = c.next_request-q in let b = bounds l.invariant q.ensures in let u = b.script in let v = b.answers in omega arith
+pub slice_bounds-answer_asked-count-in-Some-OfEvaluated : goal.slice_bounds-answer_asked-count-in-Some-OfEvaluated
+slice_bounds-answer_asked-count-in-Some-OfEvaluated c = let l = c.loop-at in let q = c.next_request-q in let b = bounds l.invariant q.ensures in let u = b.script in let v = b.answers in omega arith
 
-pub slice_bounds-answer_evaluated-start : goal.slice_bounds-answer_evaluated-start
-slice_bounds-answer_evaluated-start c = let l = c.loop-at in let q = c.next_request-q in let b = bounds l.invariant q.ensures in let u = b.script in let v = b.answers in omega arith
+pub slice_bounds-answer_asked-start-in-Some-OfEvaluated : goal.slice_bounds-answer_asked-start-in-Some-OfEvaluated
+slice_bounds-answer_asked-start-in-Some-OfEvaluated c = let l = c.loop-at in let q = c.next_request-q in let b = bounds l.invariant q.ensures in let u = b.script in let v = b.answers in omega arith
 
-pub slice_bounds-answer_evaluated-end : goal.slice_bounds-answer_evaluated-end
-slice_bounds-answer_evaluated-end c = let l = c.loop-at in let q = c.next_request-q in let b = bounds l.invariant q.ensures in let u = b.script in let v = b.answers in omega arith
+pub slice_bounds-answer_asked-end-in-Some-OfEvaluated : goal.slice_bounds-answer_asked-end-in-Some-OfEvaluated
+slice_bounds-answer_asked-end-in-Some-OfEvaluated c = let l = c.loop-at in let q = c.next_request-q in let b = bounds l.invariant q.ensures in let u = b.script in let v = b.answers in omega arith
 
-pub slice_bounds-answer_evaluated-count-in-Some-OfEvaluated : goal.slice_bounds-answer_evaluated-count-in-Some-OfEvaluated
-slice_bounds-answer_evaluated-count-in-Some-OfEvaluated c = let l = c.loop-at in let q = c.next_request-q in let b = bounds l.invariant q.ensures in let u = b.script in let v = b.answers in omega arith
+pub slice_bounds-answer_asked-count-in-Some-OfEvaluated-2 : goal.slice_bounds-answer_asked-count-in-Some-OfEvaluated-2
+slice_bounds-answer_asked-count-in-Some-OfEvaluated-2 c = let l = c.loop-at in let q = c.next_request-q in let b = bounds l.invariant q.ensures in let u = b.script in let v = b.answers in omega arith
 
-pub slice_bounds-answer_evaluated-start-in-Some-OfEvaluated : goal.slice_bounds-answer_evaluated-start-in-Some-OfEvaluated
-slice_bounds-answer_evaluated-start-in-Some-OfEvaluated c = let l = c.loop-at in let q = c.next_request-q in let b = bounds l.invariant q.ensures in let u = b.script in let v = b.answers in omega arith
+pub slice_bounds-answer_asked-start-in-Some-OfEvaluated-2 : goal.slice_bounds-answer_asked-start-in-Some-OfEvaluated-2
+slice_bounds-answer_asked-start-in-Some-OfEvaluated-2 c = let l = c.loop-at in let q = c.next_request-q in let b = bounds l.invariant q.ensures in let u = b.script in let v = b.answers in omega arith
 
-pub slice_bounds-answer_evaluated-end-in-Some-OfEvaluated : goal.slice_bounds-answer_evaluated-end-in-Some-OfEvaluated
-slice_bounds-answer_evaluated-end-in-Some-OfEvaluated c = let l = c.loop-at in let q = c.next_request-q in let b = bounds l.invariant q.ensures in let u = b.script in let v = b.answers in omega arith
+pub slice_bounds-answer_asked-end-in-Some-OfEvaluated-2 : goal.slice_bounds-answer_asked-end-in-Some-OfEvaluated-2
+slice_bounds-answer_asked-end-in-Some-OfEvaluated-2 c = let l = c.loop-at in let q = c.next_request-q in let b = bounds l.invariant q.ensures in let u = b.script in let v = b.answers in omega arith
 
-pub answer_evaluated-requires : goal.answer_evaluated-requires
-answer_evaluated-requires c = let l = c.loop-at in let q = c.next_request-q in (l.invariant.worked_out, asked l.invariant q.ensures)
+pub answer_asked-requires-in-Some-OfEvaluated : goal.answer_asked-requires-in-Some-OfEvaluated
+answer_asked-requires-in-Some-OfEvaluated c = let l = c.loop-at in let q = c.next_request-q in record { good = l.invariant.worked_out; fits = asked l.invariant q.ensures }
 
 pub loop-at-smaller-in-Some-OfEvaluated : goal.loop-at-smaller-in-Some-OfEvaluated
 loop-at-smaller-in-Some-OfEvaluated c = let l = c.loop-at in let q = c.next_request-q in let b = bounds l.invariant q.ensures in let u = b.script in let v = b.answers in omega arith
@@ -212,7 +212,7 @@ loop-at-smaller-in-Some-OfEvaluated c = let l = c.loop-at in let q = c.next_requ
 pub loop-at-preserved-in-Some-OfEvaluated : goal.loop-at-preserved-in-Some-OfEvaluated
 loop-at-preserved-in-Some-OfEvaluated c =
     let l = c.loop-at in let q = c.next_request-q in let a = asked l.invariant q.ensures in
-    asked_evaluated l.invariant q.ensures c.in-Some-OfEvaluated.is (omega (arith, c.answers-in-Some-OfEvaluated-1.given, a.long)) c.answer_evaluated.ensures
+    asked_evaluated l.invariant q.ensures (c.in-Some-OfEvaluated.is ∙ ap (λ w. Some w) (rw c.in-Some-OfEvaluated.is at c.in-Some-OfEvaluated.field-0-is)) (omega (arith, c.answers-in-Some-OfEvaluated-1.given, a.long)) (evaluated_placed c.answer_asked-in-Some-OfEvaluated.ensures)
 
 pub loop-at-smaller : goal.loop-at-smaller
 loop-at-smaller c = let l = c.loop-at in let q = c.next_request-q in let b = bounds l.invariant q.ensures in let u = b.script in let v = b.answers in omega arith
