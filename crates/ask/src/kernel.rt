@@ -276,11 +276,14 @@ fn names(alloc: Global, list: &[u8], others: usize, count: usize) -> Result<Vec<
 
 fn both(alloc: Global, list: &[u8], listed: Result<Counts, Refusal>) -> Listing<Certificates> {
     match listed {
-        BothListed::Items(n, m) => Ok(Ok(Certificates {
-            delegations: names(alloc, list, 0, n)?,
-            revocations: names(alloc, list, n, m)?,
+        Ok(Counts {
+            delegations,
+            revocations,
+        }) => Ok(Ok(Certificates {
+            delegations: names(alloc, list, 0, delegations)?,
+            revocations: names(alloc, list, delegations, revocations)?,
         })),
-        BothErr(why) => Ok(Err(why)),
+        Err(why) => Ok(Err(why)),
     }
 }
 

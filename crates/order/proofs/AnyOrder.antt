@@ -18,7 +18,7 @@ use Rattle.tables.specs.Committed.{Delegation, Revocation, Committed, nothing, n
 use Rattle.tables.specs.Insertion.{delegation_answer, delegation_check, accepted_answer, keys_answer, delegation_from, revocation_answer, revocation_check, revocation_settled, revocation_from}
 use Rattle.tables.proofs.ContentLaws.{same_content_lem, same_revoked_lem}
 use Rattle.order.specs.AnyOrder.{Certificate, delegation, revocation, answer_to, held_after, held_after_all, is_refused, none_refused, Among, SameHeld}
-use Rattle.order.proofs.Inserting.{found, one_each, fewer, Within, del_key, rev_key, keys_fit}
+use Rattle.order.proofs.Inserting.{found_entry, one_each, fewer, Within, del_key, rev_key, keys_fit}
 use Rattle.order.proofs.Entries.{Reads, Names, SaysDel, delegates, SaysRev, revokes, Built, entry, keeps, only_delegations, only_revocations, one_saying, one_naming, Said, by_delegation, by_revocation, says, built}
 use Rattle.tables.specs.declared.answer.Outcome.TheVariants.{Added, NotAdded}
 use Rattle.std.specs.Prelude.{Ok}
@@ -75,7 +75,7 @@ module _ (c e : Committed) (b : Built c) (f : Built e) (w : Within c e) where
 
       go : (t : Bool) → has (delegation_digests c) d ≡ t → is_refused (delegation_answer c d i p) ≡ false
       go true h =
-          let o = found (λ x. x.digest) c.delegations d no_delegation h in
+          let o = found_entry (λ x. x.digest) c.delegations d no_delegation h in
           let q = one_each (λ x. x.digest) e.delegations f.delegations (w.delegations (delegation_with c d) o.0) m (o.1 ∙ sym digest) in
           ap is_refused (known_delegation c d i p g r h q)
       go false h =
@@ -96,7 +96,7 @@ module _ (c e : Committed) (b : Built c) (f : Built e) (w : Within c e) where
 
       go : (t : Bool) → has (revocation_digests c) d ≡ t → is_refused (revocation_answer c d i x) ≡ false
       go true h =
-          let o = found (λ y. y.digest) c.revocations d no_revocation h in
+          let o = found_entry (λ y. y.digest) c.revocations d no_revocation h in
           let q = one_each (λ y. y.digest) e.revocations f.revocations (w.revocations (revocation_with c d) o.0) m (o.1 ∙ sym digest) in
           ap is_refused (known_revocation c d i x v r h q)
       go false h =

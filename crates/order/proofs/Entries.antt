@@ -28,7 +28,7 @@ use Rattle.insertion.proofs.AnswerLaws.{delegation_added_lem, revocation_added_l
 use Rattle.tables.proofs.ContentLaws.{content_parts, revoked_parts}
 use Rattle.tables.proofs.PayloadLaws.{parts}
 use Rattle.order.specs.AnyOrder.{Certificate, delegation, revocation, answer_to, held_after, is_refused}
-use Rattle.order.proofs.Inserting.{found, more_distinct, Within, del_key, rev_key, key_of, keys_few}
+use Rattle.order.proofs.Inserting.{found_entry, more_distinct, Within, del_key, rev_key, key_of, keys_few}
 use Rattle.tables.specs.declared.answer.Outcome.{Outcome}
 use Rattle.tables.specs.declared.answer.Outcome.TheVariants.{Added, NotAdded}
 use Rattle.std.specs.Prelude.{Result, Ok, Err}
@@ -172,7 +172,7 @@ module _ (c : Committed) (b : Built c) where
       go (Ok NotAdded) e k =
           let q = delegation_known (seen_delegation c d) d i p e in
           let g = delegation_from d i p q.power in
-          let o = found (λ x. x.digest) c.delegations d no_delegation q.held in
+          let o = found_entry (λ x. x.digest) c.delegations d no_delegation q.held in
           let l = b.long (delegation_with c d) o.0 in
           let m = parts p q.power q.tag q.read in
           let s = same_one (delegation_with c d) g o.1 (l.0 ∙ sym m.audience) (l.1 ∙ sym m.subject) q.same in
@@ -188,7 +188,7 @@ module _ (c : Committed) (b : Built c) where
           new_revocation (record { digest = q.digest; issuer = q.issuer; revoked = q.revoked; is = refl }) q.new q.room q.keys
       go (Ok NotAdded) e k =
           let q = revocation_known (seen_revocation c d) d i x e in
-          let o = found (λ y. y.digest) c.revocations d no_revocation q.held in
+          let o = found_entry (λ y. y.digest) c.revocations d no_revocation q.held in
           let m = revoked_parts (revocation_with c d) (revocation_from d i x) q.same in
           let s = one_revocation (revocation_with c d) (revocation_from d i x) o.1 m.0 m.1 in
           same_revocation q.names (subst (λ (y : Revocation). Memᴰ y c.revocations) s o.0)

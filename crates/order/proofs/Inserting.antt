@@ -26,11 +26,11 @@ module _ {A : Type 0} (f : A → Bytes) where
   digest_held {l} {a} m = mem_has (f a) (map f l) (Memᴰ.map f m)
 
   -- the one with a digest that is held is there, and has the digest
-  pub found : (l : List A) (d : Bytes) (z : A) → has (map f l) d ≡ true
+  pub found_entry : (l : List A) (d : Bytes) (z : A) → has (map f l) d ≡ true
       → Memᴰ (get_or l (place (map f l) d) z) l × (f (get_or l (place (map f l) d) z) ≡ d)
   unfolding has place
-  found [] d z h = absurd (false≢true h)
-  found (x ∷ l) d z h = go (eq_bytes (f x) d) refl h (found l d z)
+  found_entry [] d z h = absurd (false≢true h)
+  found_entry (x ∷ l) d z h = go (eq_bytes (f x) d) refl h (found_entry l d z)
     where
       go : (t : Bool) → eq_bytes (f x) d ≡ t → cond t true (has (map f l) d) ≡ true
           → (has (map f l) d ≡ true → Memᴰ (get_or l (place (map f l) d) z) l × (f (get_or l (place (map f l) d) z) ≡ d))

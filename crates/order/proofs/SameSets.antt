@@ -37,7 +37,7 @@ use Rattle.keyline.specs.declared.refusal.Refusal.{Refusal}
 use Rattle.tables.specs.declared.answer.Outcome.{Outcome}
 use Rattle.keyline_memory.specs.declared.state.State.{State}
 use Rattle.order.specs.AnyOrder.{Certificate, delegation, revocation, answer_to, held_after, held_after_all, none_refused, Among, Came, started, delegated, revoked, SameHeld, SameSets}
-use Rattle.order.proofs.Inserting.{found, one_each, HasKey, del_key, rev_key, key_of}
+use Rattle.order.proofs.Inserting.{found_entry, one_each, HasKey, del_key, rev_key, key_of}
 use Rattle.order.proofs.Entries.{Built}
 use Rattle.order.proofs.AnyOrder.{empty, after, any_order}
 
@@ -77,8 +77,8 @@ module _ {A : Type 0} (f : A → Bytes) (z : A) (l m : List A) (there : (a : A) 
 
         go : (t : Bool) → has (map f l) d ≡ t → get_or l (place (map f l) d) z ≡ get_or m (place (map f m) d) z
         go true h =
-            let a = found f l d z h in
-            let b = found f m d z (sym (same_has d) ∙ h) in
+            let a = found_entry f l d z h in
+            let b = found_entry f m d z (sym (same_has d) ∙ h) in
             one_each f m dm (there _ a.0) b.0 (a.1 ∙ sym b.1)
         go false h = past l h ∙ sym (past m (sym (same_has d) ∙ h))
 
@@ -173,7 +173,7 @@ module _ (A B : Committed) (a : Built A) (b : Built B) (same : SameHeld A B) whe
 
     here : Closure (graph A) it.subject it
     unfolding it
-    here = own A (delegation_with A x) (found (λ g. g.digest) A.delegations x no_delegation h).0
+    here = own A (delegation_with A x) (found_entry (λ g. g.digest) A.delegations x no_delegation h).0
 
   live_same : (x : Bytes) → has (delegation_digests A) x ≡ true → Live (graph A) (delegation_with A x) ↔ Live (graph B) (delegation_with B x)
   unfolding it
