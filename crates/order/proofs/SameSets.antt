@@ -9,7 +9,7 @@ use mathlib.Core.Option.{Option}
 use mathlib.Core.List.Memᴰ
 use mathlib.Core.List.{List, [], ◌∷◌, ◌++◌, map, Memᴰ}
 use native.Mathlib.Omega.{arith}
-use Rattle.std.specs.Prelude.{Result}
+use Rattle.std.specs.Prelude.{Err, Ok, Result}
 use lib.ListN.{length, get_or, length-map}
 use Rattle.rules.specs.Rules.{Admin, Nobody, d1, Standing, Closure, Live, ConveyedIs, StandingIs}
 use Rattle.rules.specs.OneClosure.{ListedIn, RestsOnClosure}
