@@ -138,7 +138,6 @@ pub fn caps(
             audience: &facts.audience,
             subject: &facts.subject,
             grades: &grades,
-            count: n,
             edges,
             subjects,
         };

@@ -2,10 +2,9 @@
 // revocation spree yields one set.
 
 ghost use Rattle.std.specs.Prelude.{◌≤◌, unwrap_or};
-ghost use Rattle.places.specs.Limits.{revocation_limit};
+ghost use Rattle.places.specs.Limits.{delegation_limit, revocation_limit};
 ghost use Rattle.coverage.specs.Contexts.{Sought, Grouped};
 
-use crate::Facts;
 use places::{DELEGATION_LIMIT, REVOCATION_LIMIT};
 
 #[derive(Clone, Copy)]
@@ -31,16 +30,23 @@ fn find(exclude: &[u64; REVOCATION_LIMIT], count: usize, w: u64) -> Option<usize
     None
 }
 
-// The contexts of the covered delegations, by the revocations that name them.
-pub fn contexts(facts: &Facts, excluded: &[u64; DELEGATION_LIMIT]) -> Groups
-    ensures { Grouped facts.now.target excluded.now facts.now.revocations facts.now.delegations result.count result.exclude result.members }
+// The contexts of the covered ones among the first n delegations, by the first m revocations. It takes the one column that it reads: docs/ names
+// it, and the type of facts asks more.
+pub fn contexts(
+    target: &[u8; REVOCATION_LIMIT],
+    m: usize,
+    n: usize,
+    excluded: &[u64; DELEGATION_LIMIT],
+) -> Groups
+    requires { (m ≤ revocation_limit) × (n ≤ delegation_limit) }
+    ensures { Grouped target.now excluded.now m n result.count result.exclude result.members }
 {
     let mut count = 0;
     let mut exclude = [0u64; REVOCATION_LIMIT];
     let mut members = [0u64; REVOCATION_LIMIT];
-    for j in 0..facts.revocations {
-        let d = usize::from(facts.target[j]);
-        if d < facts.delegations {
+    for j in 0..m {
+        let d = usize::from(target[j]);
+        if d < n {
             let w = excluded[d];
             if w != 0 {
                 let c = find(&exclude, count, w).unwrap_or(count);

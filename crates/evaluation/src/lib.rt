@@ -48,7 +48,6 @@ pub fn evaluate(facts: Facts) -> Evaluation
         audience: &facts.audience,
         subject: &facts.subject,
         grades: &all,
-        count: n,
         edges: &edges,
         subjects,
     };
@@ -57,7 +56,7 @@ pub fn evaluate(facts: Facts) -> Evaluation
     let reach = search::levels::reach(&found);
     let revokers = coverage::revokers(&facts.revoker, &facts.target, m, n);
     let excluded = coverage::coverage(&facts.subject, n, subjects, &revokers, &found);
-    let contexts = coverage::contexts::contexts(&facts, &excluded);
+    let contexts = coverage::contexts::contexts(&facts.target, m, n, &excluded);
     let live = live_set::live_set(&facts, &edges, subjects, &contexts, &revokers, &excluded);
     let grades = caps::caps(&facts, &edges, subjects, &contexts, &excluded, &live);
     Evaluation {
@@ -111,7 +110,6 @@ impl Evaluation {
             audience: &facts.audience,
             subject: &facts.subject,
             grades: &self.grades,
-            count: facts.delegations,
             edges: &edges,
             subjects: self.subjects,
         };

@@ -260,7 +260,6 @@ pub fn live_set(
             audience: &facts.audience,
             subject: &facts.subject,
             grades: &grades,
-            count: n,
             edges,
             subjects,
         };

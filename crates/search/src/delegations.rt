@@ -1,7 +1,7 @@
 // The delegations as one search walks them, lent: their columns, the index of these, and the grades at which they are usable.
 
 ghost use Rattle.search.specs.Graph.{graph};
-ghost use Rattle.search.specs.Index.{Ready};
+ghost use Rattle.search.specs.Index.{indexed_count, Ready};
 
 use crate::edges::Edges;
 use places::DELEGATION_LIMIT;
@@ -13,10 +13,8 @@ pub struct Delegations<'a> {
     pub subject: &'a [u8; DELEGATION_LIMIT],
     // the level c(d) plus one, and 0 where the delegation is not usable
     pub grades: &'a [u8; DELEGATION_LIMIT],
-    // how many of them there are
-    pub count: usize,
     pub edges: &'a Edges,
     // the subjects of usable delegations are among these
     pub subjects: u64,
-    pub ghost ready: { Ready (graph issuer.now audience.now subject.now grades.now 0) count edges.now.issuers edges.now.last edges.now.earlier subjects },
+    pub ghost ready: { Ready (graph issuer.now audience.now subject.now grades.now 0) (indexed_count edges.now.last) edges.now.issuers edges.now.last edges.now.earlier subjects },
 }

@@ -12,8 +12,9 @@ use Rattle.rules.proofs.Derivations.Answers.{AtLeast, Under, answer_carry}
 use Rattle.rules.specs.Rows.{level_of}
 use Rattle.search.specs.Sets.{Word}
 use Rattle.search.specs.Graph.{Graph, graph, Holds}
-use Rattle.search.specs.Index.{Indexed, Ready}
+use Rattle.search.specs.Index.{Indexed, indexed_count, Ready}
 use Rattle.search.specs.Levels.{Found}
+use Rattle.search.proofs.Laws.Lent.{ready_indexed}
 use Rattle.coverage.specs.Places.{Fit, Grades, Subject, Over}
 use Rattle.coverage.specs.Contexts.{Through}
 use Rattle.coverage.specs.declared.Facts.{Facts}
@@ -53,14 +54,14 @@ module _ (e : Facts) (g : List ℕ) (n : ℕ) where
   found_over F = record { answer = λ r x k. answer_carry under_over under_holds (F.answer r x k); nested = F.nested }
 
   pub ready : {issuers last earlier : List ℕ} {subjects : ℕ} → Fit e → Grades e g → Indexed e.issuer e.subject e.delegations issuers last earlier
-      → Word subjects (Subject e) → Ready (seen e g n) e.delegations issuers last earlier subjects
-  ready f h I W = record {
+      → Word subjects (Subject e) → Ready (seen e g n) (indexed_count last) issuers last earlier subjects
+  ready f h I W = ready_indexed (record {
     placed = record { issuer_lt = f.issuer_lt; audience_lt = f.audience_lt; grade_le = h.le };
     count_le = f.delegations_le;
     indexed = I;
     held = h.held;
     covers = λ d p. W.has (get_or e.subject d 0) (record { place = d; lt = h.held d p; is = refl });
-  }
+  }) (λ d p. f.subject_lt d)
 
 -- ---- searches in general
 

@@ -6,9 +6,9 @@ use Rattle.search.proofs.Laws.Complete.{sound_zeros}
 use Rattle.coverage.specs.Places.{places}
 use Rattle.coverage.specs.Coverage.{Nets}
 use Rattle.coverage.proofs.Laws.Fill.{filled_map}
-use Rattle.coverage.proofs.Laws.Seek.{seen, found_over, found_less}
+use Rattle.coverage.proofs.Laws.Seek.{seen, ready, found_over, found_less}
 use Rattle.coverage.proofs.Laws.Cover.{net_is}
-use Rattle.evaluation.proofs.Laws.Ask.{found_positive}
+use Rattle.evaluation.proofs.Laws.Ask.{grades_all, found_positive}
 use Rattle.evaluation.proofs.evaluate.Goals.{After-coverage-excluded, After-search}
 use Rattle.evaluation.proofs.evaluate.Goals as goal
 
@@ -26,6 +26,13 @@ nets c =
     filled_map (λ d w h X. net_is c.args.facts s.result (c.search.new.levels) s.ensures (let g = c.powers-all in
     let e = c.args.facts in
     found_positive e e.fit g.result g.ensures (found_over e g.result 0 (found_less c.subjects-subjects.result c.search.result c.search.ensures.1 c.search.ensures.0))) d h _ (c.revokers-revokers.ensures.is d h) w X) c.coverage-excluded.ensures
+
+pub invariant_of-delegations : goal.invariant_of-delegations
+invariant_of-delegations c =
+    let g = c.powers-all in
+    let e = c.args.facts in record {
+      ready = ready e g.result 0 e.fit (grades_all e e.fit g.result g.ensures) c.index-edges.ensures c.subjects-subjects.ensures;
+    }
 
 pub search-requires : goal.search-requires
 search-requires c = sound_zeros (seen c.args.facts c.powers-all.result 0)

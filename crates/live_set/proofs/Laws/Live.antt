@@ -9,7 +9,7 @@ use native.Mathlib.Decide.{dec_lt}
 use lib.ListN.{get_or, length}
 use Rattle.keyset.specs.Word.{bit, size}
 use Rattle.keyset.proofs.Laws.{bit_le, bit_two, bit_none, size_more, some_member}
-use Rattle.places.specs.Limits.{delegation_limit, revocation_limit}
+use Rattle.places.specs.Limits.{delegation_limit, revocation_limit, level_count}
 use Rattle.rules.specs.Rules.{Nobody, Excluded, Uncovered, Eligible, Reached, Usable, LiveCovered, LiveUncovered, Live}
 use Rattle.rules.proofs.Derivations.Monotone.{mono, reach}
 use Rattle.rules.proofs.Evaluation.LiveSet.{live_in, live_set, live_held}
@@ -17,7 +17,7 @@ use Rattle.search.specs.Sets.{Says, Word}
 use Rattle.search.specs.Levels.{Found}
 use Rattle.search.proofs.Laws.Answer.{found_only, found_has}
 use Rattle.coverage.specs.Arrays.{Below, Filled}
-use Rattle.coverage.specs.Places.{places, Fit, Subject, Over}
+use Rattle.coverage.specs.Places.{places, Fit, Grades, Subject, Over}
 use Rattle.coverage.specs.Coverage.{RevokersBy, Nets}
 use Rattle.coverage.specs.Contexts.{Put, Grouped, In}
 use Rattle.coverage.specs.Lives.{Starts}
@@ -135,6 +135,13 @@ module _ (e : Facts) (excluded : List ℕ) (fit : Fit e) (NN : Nets e excluded) 
         go : Dec (0 < get_or excluded d 0) → Usable (places e) d
         go (yes q) = inr (U.live d p q)
         go (no n) = inl (uncovered e excluded NN d (U.value d p).0 (let z : get_or excluded d 0 ≡ 0 = omega (arith, n) in z))
+
+    pub grades_usable : Grades e grades
+    grades_usable = record { len = U.len; le = λ d. le d (dec_lt 0 (get_or grades d 0)); held = λ d p. (U.value d p).0 }
+      where
+        le : (d : ℕ) → Dec (0 < get_or grades d 0) → get_or grades d 0 ≤ level_count
+        le d (yes p) = omega (arith, (U.value d p).1, fit.power_le d)
+        le d (no n) = omega (arith, n)
 
     pub plain_grade : {d : ℕ} → Uncovered (places e) d → 0 < get_or grades d 0
     plain_grade {d} u = omega (arith, U.plain d u.held (plain_net e excluded NN u))

@@ -1,8 +1,8 @@
 -- `live_set::live_set` meets its contract. The loop's invariant: what is usable and what waits (`Usables`). Each round that is not the last takes from
 -- those that wait, and at the last the usable ones are the live ones.
 use native.Mathlib.Omega.{arith}
-use Rattle.coverage.proofs.Laws.Seek.{found_over}
-use Rattle.live_set.proofs.Laws.Live.{usables_start, usables_next, waiting_less, starts}
+use Rattle.coverage.proofs.Laws.Seek.{ready, found_over}
+use Rattle.live_set.proofs.Laws.Live.{usables_start, usables_next, grades_usable, waiting_less, starts}
 use Rattle.live_set.proofs.live_set.Goals as goal
 
 pub loop-grades-init : goal.loop-grades-init
@@ -10,6 +10,15 @@ loop-grades-init c =
     let a = c.args in
     let p = c.requires in
     usables_start a.facts.now a.excluded.now a.facts.now.fit p.revokers_by.1 p.revokers_by.0 c.plain-grades.ensures c.eligibles-waiting.ensures
+
+pub invariant_of-delegations : goal.invariant_of-delegations
+invariant_of-delegations c =
+    let a = c.args in
+    let f = a.facts.now in
+    let p = c.requires in
+    let l = c.loop-grades in record {
+      ready = ready f l.grades 0 f.fit (grades_usable f a.excluded.now f.fit p.revokers_by.1 l.grades l.waiting l.invariant) p.indexed p.subjects;
+    }
 
 pub returns-then-newly-eq0 : goal.returns-then-newly-eq0
 returns-then-newly-eq0 c =

@@ -127,7 +127,7 @@ module _ (issuer subject : List ℕ) (d : ℕ) (issuers last earlier : List ℕ)
 
 -- ---- the walk
 
-last_le : {issuer subject : List ℕ} {n r u : ℕ} (next : ℕ) → Last issuer subject n r u next → next ≤ n
+pub last_le : {issuer subject : List ℕ} {n r u : ℕ} (next : ℕ) → Last issuer subject n r u next → next ≤ n
 last_le zero L = omega arith
 last_le (suc d) L = omega (arith, (L.found d refl).0)
 

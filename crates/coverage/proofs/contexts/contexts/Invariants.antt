@@ -3,4 +3,4 @@ use Rattle.coverage.proofs.Laws.Group.{Grouping}
 use Rattle.coverage.proofs.contexts.contexts.Given as goal
 
 abbrev pub invariant-loop-j : goal.invariant-loop-j
-invariant-loop-j l = Grouping l.facts.target l.excluded l.j l.facts.delegations l.count l.exclude l.members
+invariant-loop-j l = Grouping l.target l.excluded l.j l.n l.count l.exclude l.members

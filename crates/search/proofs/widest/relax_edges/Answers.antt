@@ -5,7 +5,7 @@ use native.Mathlib.Omega.{arith}
 use Rattle.places.specs.Limits.{delegation_limit}
 use Rattle.search.specs.Graph.{Graph}
 use Rattle.search.specs.Delegations.{graph_of}
-use Rattle.search.specs.Index.{Last}
+use Rattle.search.specs.Index.{Last, indexed_count}
 use Rattle.search.proofs.Laws.Above.{one_less}
 use Rattle.search.proofs.Laws.Chain.{chaining_start, chaining_place, chaining_more, chaining_less}
 use Rattle.search.proofs.Laws.Lent.{ready_of}
@@ -25,7 +25,7 @@ loop-next-init c =
     let a = c.args in
     let R = (ready_of c.args.delegations.now c.args.exclude) in
     chaining_start (gr (goal.at.loop-next-init c).Start) a.r a.u a.v a.buckets.now c.from-next.result R (omega arith)
-    (subst (λ (z : ℕ). Last a.delegations.now.issuer.now a.delegations.now.subject.now a.delegations.now.count a.r a.u z) (sym c.from-next.ensures) (R.indexed.start a.r a.u c.requires.0 c.requires.1))
+    (subst (λ (z : ℕ). Last a.delegations.now.issuer.now a.delegations.now.subject.now (indexed_count a.delegations.now.edges.now.last) a.r a.u z) (sym c.from-next.ensures) (R.indexed.start a.r a.u c.requires.0 c.requires.1))
 
 pub bounds-grades-d : goal.bounds-grades-d
 bounds-grades-d c = place (goal.at.bounds-grades-d c).In-loop-next

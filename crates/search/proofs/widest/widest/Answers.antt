@@ -7,6 +7,7 @@ use Rattle.keyset.specs.Word.{bit}
 use Rattle.keyset.proofs.Laws.{size_le}
 use Rattle.places.specs.Limits.{key_limit}
 use Rattle.search.specs.Graph.{Graph}
+use Rattle.search.specs.Index.{indexed_count}
 use Rattle.search.specs.Delegations.{graph_of}
 use Rattle.search.specs.Walk.{In}
 use Rattle.search.proofs.Laws.Above.{one_less}
@@ -90,4 +91,4 @@ returns c =
     let e : l.above ≡ 0 = omega arith in
     walk_end (gr (goal.at.returns c).Start) a.r a.levels.now l.buckets c.union-active.result l.settled
     (subst (λ (n : ℕ). Walk (gr (goal.at.returns c).Start) a.r a.levels.now l.buckets c.union-active.result l.settled n) e l.invariant)
-    a.delegations.now.count a.delegations.now.edges.now.issuers a.delegations.now.edges.now.last a.delegations.now.edges.now.earlier a.delegations.now.subjects (ready_of c.args.delegations.now c.args.exclude) c.requires.sound c.union-active.ensures
+    (indexed_count a.delegations.now.edges.now.last) a.delegations.now.edges.now.issuers a.delegations.now.edges.now.last a.delegations.now.edges.now.earlier a.delegations.now.subjects (ready_of c.args.delegations.now c.args.exclude) c.requires.sound c.union-active.ensures
