@@ -276,10 +276,12 @@ fn names(alloc: Global, list: &[u8], others: usize, count: usize) -> Result<Vec<
 
 fn both(alloc: Global, list: &[u8], listed: Result<Counts, Refusal>) -> Listing<Certificates> {
     match listed {
-        Ok(Counts {
-            delegations,
-            revocations,
-        }) => Ok(Ok(Certificates {
+        Ok(
+            Counts {
+                delegations,
+                revocations,
+            },
+        ) => Ok(Ok(Certificates {
             delegations: names(alloc, list, 0, delegations)?,
             revocations: names(alloc, list, delegations, revocations)?,
         })),
