@@ -52,10 +52,10 @@ impl<'a> Fields<'a> {
         }
     }
 
-    // The letter of a power, or the dot of none.
+    // The letter of a power, or the dot of none; a zero byte alone is a letter that no answer has.
     pub(crate) fn letter(&mut self) -> Option<u8> {
         match self.text()? {
-            [b] if is_letter(*b) => Some(*b),
+            [b] if is_letter(*b) || *b == 0 => Some(*b),
             _ => None,
         }
     }
