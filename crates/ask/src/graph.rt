@@ -9,11 +9,7 @@ use power_levels::power::Power;
 use std::io;
 use text::name::Name;
 
-pub(crate) fn graph(
-    rt: &(impl Print + AllocGlobal),
-    store: &Store,
-    subject: &Name,
-) -> io::Result<()> {
+pub(crate) fn graph(rt: &impl Print, store: &Store, subject: &Name) -> io::Result<()> {
     let evaluation = store.evaluate();
     print!(rt; "digraph ")?;
     quoted(rt, subject)?;
@@ -24,12 +20,12 @@ pub(crate) fn graph(
     quoted(rt, subject)?;
     rt.println(" [shape=doubleoctagon, color=black, fontcolor=black];")?;
     // The members, each with its level; a key with no power comes in by its arrows, and is grey.
-    if let Ok(members) = evaluation.members(rt.alloc(), subject)? {
-        for member in &members {
+    if let Ok(members) = evaluation.members(subject) {
+        for member in members.as_slice() {
             node(rt, member)?;
         }
     }
-    if let Ok(list) = evaluation.closure(rt.alloc(), subject)? {
+    if let Ok(list) = evaluation.closure(subject) {
         for digest in list.of(Kind::Delegation) {
             if let Ok(Some(held)) = store.delegation(digest) {
                 delegation(rt, &held, evaluation.conveyed_power(digest))?;

@@ -2,6 +2,7 @@
 // go in as keys and digests, and lists come out as names.
 ghost use Rattle.queries.specs.Evaluated.{GoodEvaluated};
 
+use arrayvec::ArrayVec;
 use keyline::limits::{
     CITED_LENGTH, DELEGATION_LIMIT, DIGEST_LENGTH, KEY_LENGTH, KEY_LIMIT, PAYLOAD_LENGTH, POWER_AT,
     REVOCATION_LIMIT,
@@ -13,15 +14,20 @@ use lists::write::Counts;
 use notation::statement::{Delegation, Revocation};
 use power_levels::power::Power;
 use queries::evaluated::Evaluated;
-use std::alloc::{AllocError, Global};
 use tables::answer::Outcome;
 use text::name::Name;
 
 // The kernel writes 32 bytes an item into a lent buffer: this is one for a full store's certificates.
 const LIST_LENGTH: usize = (DELEGATION_LIMIT + REVOCATION_LIMIT) * KEY_LENGTH;
 
-// A list, or why the kernel refused to give it; only memory can fail besides.
-pub(crate) type Listing<T> = Result<Result<T, Refusal>, AllocError>;
+// Items of a list, of which there are as many as a store holds at most: a list takes no memory that could run out.
+pub(crate) type Delegations = ArrayVec<Name, DELEGATION_LIMIT>;
+
+pub(crate) type Revocations = ArrayVec<Name, REVOCATION_LIMIT>;
+
+pub(crate) type Keys = ArrayVec<Name, KEY_LIMIT>;
+
+pub(crate) type Members = ArrayVec<Member, KEY_LIMIT>;
 
 #[derive(Clone, Copy, Debug, PartialEq, Eq)]
 pub(crate) enum Kind {
@@ -32,8 +38,8 @@ pub(crate) enum Kind {
 // Digests, in the kernel's order.
 #[derive(Drop)]
 pub(crate) struct Certificates {
-    delegations: Vec<Name>,
-    revocations: Vec<Name>,
+    delegations: Delegations,
+    revocations: Revocations,
 }
 
 impl Certificates {
@@ -49,7 +55,7 @@ impl Certificates {
     }
 }
 
-#[derive(Clone, Copy)]
+#[derive(Clone, Copy, Default)]
 pub(crate) struct Member {
     pub(crate) key: Name,
     // None where the kernel's byte says no level.
@@ -113,54 +119,48 @@ impl Store {
         }
     }
 
-    pub(crate) fn certificates(&self, alloc: Global) -> Listing<Certificates> {
+    pub(crate) fn certificates(&self) -> Result<Certificates, Refusal> {
         let mut list = [0u8; LIST_LENGTH];
-        let listed = self.state.certificates(&mut list);
-        both(alloc, &list, listed)
+        let counts = self.state.certificates(&mut list)?;
+        Ok(both(&list, counts))
     }
 
-    pub(crate) fn subjects(&self, alloc: Global) -> Listing<Vec<Name>> {
+    pub(crate) fn subjects(&self) -> Result<Keys, Refusal> {
         let mut list = [0u8; LIST_LENGTH];
-        match self.state.subjects(&mut list) {
-            Ok(n) => Ok(Ok(names(alloc, &list, 0, n)?)),
-            Err(why) => Ok(Err(why)),
-        }
+        let n = self.state.subjects(&mut list)?;
+        Ok(names(&list, 0, n))
     }
 
-    pub(crate) fn revocations_of(&self, alloc: Global, target: &Name) -> Listing<Certificates> {
+    pub(crate) fn revocations_of(&self, target: &Name) -> Result<Certificates, Refusal> {
         let mut list = [0u8; LIST_LENGTH];
-        match self.state.revocations_of(target.key(), &mut list) {
-            Ok(n) => {
-                let counts = Counts {
-                    delegations: 0,
-                    revocations: n,
-                };
-                both(alloc, &list, Ok(counts))
-            }
-            Err(why) => Ok(Err(why)),
-        }
+        let revocations = self.state.revocations_of(target.key(), &mut list)?;
+        let delegations = 0;
+        Ok(both(
+            &list,
+            Counts {
+                delegations,
+                revocations,
+            },
+        ))
     }
 
     pub(crate) fn delegations_to(
         &self,
-        alloc: Global,
         subject: &Name,
         audience: &Name,
-    ) -> Listing<Certificates> {
+    ) -> Result<Certificates, Refusal> {
         let mut list = [0u8; LIST_LENGTH];
-        let listed = self
+        let delegations = self
             .state
-            .delegations_to(subject.key(), audience.key(), &mut list);
-        match listed {
-            Ok(n) => {
-                let counts = Counts {
-                    delegations: n,
-                    revocations: 0,
-                };
-                both(alloc, &list, Ok(counts))
-            }
-            Err(why) => Ok(Err(why)),
-        }
+            .delegations_to(subject.key(), audience.key(), &mut list)?;
+        let revocations = 0;
+        Ok(both(
+            &list,
+            Counts {
+                delegations,
+                revocations,
+            },
+        ))
     }
 
     pub(crate) fn evaluate(&self) -> Evaluation
@@ -221,26 +221,23 @@ impl Evaluation {
         self.evaluated.standing(digest.key())
     }
 
-    pub(crate) fn members(&self, alloc: Global, subject: &Name) -> Listing<Vec<Member>>
+    pub(crate) fn members(&self, subject: &Name) -> Result<Members, Refusal>
         requires { GoodEvaluated self.now.evaluated }
     {
         let mut keys = [0u8; LIST_LENGTH];
         let mut powers = [0u8; KEY_LIMIT];
-        let listed = self
+        let n = self
             .evaluated
-            .members(subject.key(), &mut keys, &mut powers);
-        match listed {
-            Ok(n) => Ok(Ok(members(alloc, &keys, &powers, n)?)),
-            Err(why) => Ok(Err(why)),
-        }
+            .members(subject.key(), &mut keys, &mut powers)?;
+        Ok(members(&keys, &powers, n))
     }
 
-    pub(crate) fn closure(&self, alloc: Global, subject: &Name) -> Listing<Certificates>
+    pub(crate) fn closure(&self, subject: &Name) -> Result<Certificates, Refusal>
         requires { GoodEvaluated self.now.evaluated }
     {
         let mut list = [0u8; LIST_LENGTH];
-        let listed = self.evaluated.closure(subject.key(), &mut list);
-        both(alloc, &list, listed)
+        let counts = self.evaluated.closure(subject.key(), &mut list)?;
+        Ok(both(&list, counts))
     }
 }
 
@@ -264,38 +261,36 @@ fn delegation(digest: Name, issuer: Name, payload: &[u8]) -> Result<Delegation, 
     })
 }
 
-// So many names of a list, behind so many others.
-fn names(alloc: Global, list: &[u8], others: usize, count: usize) -> Result<Vec<Name>, AllocError> {
-    let items = list.as_chunks::<KEY_LENGTH>().0.iter();
-    items
+// So many names of a list, behind so many others, as far as there is room.
+fn names<const N: usize>(list: &[u8], others: usize, count: usize) -> ArrayVec<Name, N> {
+    let mut names = ArrayVec::new();
+    for key in list
+        .as_chunks::<KEY_LENGTH>()
+        .0
+        .iter()
         .skip(others)
         .take(count)
-        .map(|key| Name::from(*key))
-        .collect(alloc)
+    {
+        let _ = names.try_push(Name::from(*key));
+    }
+    names
 }
 
-fn both(alloc: Global, list: &[u8], listed: Result<Counts, Refusal>) -> Listing<Certificates> {
-    match listed {
-        Ok(
-            Counts {
-                delegations,
-                revocations,
-            },
-        ) => Ok(Ok(Certificates {
-            delegations: names(alloc, list, 0, delegations)?,
-            revocations: names(alloc, list, delegations, revocations)?,
-        })),
-        Err(why) => Ok(Err(why)),
+fn both(list: &[u8], counts: Counts) -> Certificates {
+    Certificates {
+        delegations: names(list, 0, counts.delegations),
+        revocations: names(list, counts.delegations, counts.revocations),
     }
 }
 
-fn members(alloc: Global, keys: &[u8], powers: &[u8], n: usize) -> Result<Vec<Member>, AllocError> {
+fn members(keys: &[u8], powers: &[u8], n: usize) -> Members {
+    let mut members = ArrayVec::new();
     let keys = keys.as_chunks::<KEY_LENGTH>().0.iter();
-    keys.zip(powers)
-        .take(n)
-        .map(|(key, power)| Member {
+    for (key, power) in keys.zip(powers).take(n) {
+        let _ = members.try_push(Member {
             key: Name::from(*key),
             power: level(*power),
-        })
-        .collect(alloc)
+        });
+    }
+    members
 }

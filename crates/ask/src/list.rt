@@ -1,6 +1,7 @@
 // Questions whose answer is a list of certificates or of subjects.
-use crate::kernel::{Certificates, Kind, Listing, Store};
+use crate::kernel::{Certificates, Keys, Kind, Store};
 use crate::{say, show};
+use keyline::refusal::Refusal;
 use std::io;
 use text::name::Name;
 
@@ -49,10 +50,10 @@ pub(crate) fn certificates(
     store: &Store,
     heading: Heading<'_>,
     kinds: &[Kind],
-    listed: Listing<Certificates>,
+    listed: Result<Certificates, Refusal>,
     plain: bool,
 ) -> io::Result<()> {
-    match listed? {
+    match listed {
         Ok(list) if plain => facts(rt, heading, kinds, &list),
         Ok(list) if list.is_empty() => say::none(rt),
         Ok(list) => lines(rt, store, kinds, &list),
@@ -88,8 +89,12 @@ fn lines(rt: &impl Print, store: &Store, kinds: &[Kind], list: &Certificates) ->
     Ok(())
 }
 
-pub(crate) fn subjects(rt: &impl Print, listed: Listing<Vec<Name>>, plain: bool) -> io::Result<()> {
-    let subjects = match listed? {
+pub(crate) fn subjects(
+    rt: &impl Print,
+    listed: Result<Keys, Refusal>,
+    plain: bool,
+) -> io::Result<()> {
+    let subjects = match listed {
         Ok(subjects) => subjects,
         Err(why) => return say::refused_line(rt, why),
     };
@@ -102,7 +107,7 @@ pub(crate) fn subjects(rt: &impl Print, listed: Listing<Vec<Name>>, plain: bool)
     } else if subjects.is_empty() {
         say::none(rt)?;
     }
-    for subject in &subjects {
+    for subject in subjects.as_slice() {
         rt.print(if plain { "subject " } else { "  " })?;
         say::name(rt, subject)?;
         rt.println("")?;

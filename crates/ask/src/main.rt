@@ -2,6 +2,7 @@
 // and answers each question about the store as it stands at that line. With --plain as its first argument it writes one fact a line.
 #![tactic(auto)]
 
+use output::Output;
 use std::env::{Env, FillError};
 use std::{fs, io};
 
@@ -30,20 +31,21 @@ Reads certificates and questions from FILE or standard input, a line for each:
 A question is answered from the certificates above it. --plain: one fact a line.";
 
 fn main(rt: HostRuntime) -> io::Result<()> {
+    let out = Output(&rt);
     let mut first = [0u8; PATH_LENGTH];
     let (plain, at) = match argument(&rt, 1, &mut first) {
-        Ok(b"--help") => return rt.println(HELP),
+        Ok(b"--help") => return out.println(HELP),
         Ok(b"--plain") => (true, 2),
         _ => (false, 1),
     };
     let mut name = [0u8; PATH_LENGTH];
     match argument(&rt, at, &mut name) {
-        Err(FillError::NotPresent) => reader::run(&rt, rt.reader(), plain),
-        _ if is_given(&rt, at + 1) => rt.println(HELP),
+        Err(FillError::NotPresent) => reader::run(&out, rt.reader(), plain),
+        _ if is_given(&rt, at + 1) => out.println(HELP),
         Err(FillError::TooLong) => eprintln!(rt; "the file's name is too long"),
         Ok(name) => match str::from_utf8(name) {
             Ok(path) => match fs::open(&rt, path) {
-                Ok(file) => reader::run(&rt, file, plain),
+                Ok(file) => reader::run(&out, file, plain),
                 Err(e) => eprintln!(rt; "{path}: {e}"),
             },
             Err(_) => eprintln!(rt; "the file's name is not UTF-8"),

@@ -1,17 +1,18 @@
 // The members of a subject, as a table of names and levels.
-use crate::kernel::{Listing, Member};
+use crate::kernel::{Member, Members};
 use crate::list::Heading;
 use crate::say;
+use keyline::refusal::Refusal;
 use std::io;
 use text::name::Name;
 
 pub(crate) fn members(
     rt: &impl Print,
     subject: &Name,
-    listed: Listing<Vec<Member>>,
+    listed: Result<Members, Refusal>,
     plain: bool,
 ) -> io::Result<()> {
-    match listed? {
+    match listed {
         Ok(members) if plain => facts(rt, subject, members.as_slice()),
         Ok(members) => table(rt, members.as_slice()),
         Err(why) => say::refused_line(rt, why),

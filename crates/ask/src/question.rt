@@ -8,14 +8,14 @@ use std::io;
 const BOTH: [Kind; 2] = [Kind::Delegation, Kind::Revocation];
 
 pub(crate) fn answer(
-    rt: &(impl Print + AllocGlobal),
+    rt: &impl Print,
     store: &Store,
     question: Question,
     plain: bool,
 ) -> io::Result<()> {
     match question {
         Question::Members { subject } => {
-            let listed = store.evaluate().members(rt.alloc(), &subject);
+            let listed = store.evaluate().members(&subject);
             members::members(rt, &subject, listed, plain)
         }
         Question::Power { subject, key } => {
@@ -43,7 +43,7 @@ pub(crate) fn answer(
                 word: "closure",
                 names: &[subject],
             };
-            let listed = store.evaluate().closure(rt.alloc(), &subject);
+            let listed = store.evaluate().closure(&subject);
             list::certificates(rt, store, heading, &BOTH, listed, plain)
         }
         Question::RevocationsOf { certificate } => {
@@ -51,7 +51,7 @@ pub(crate) fn answer(
                 word: "revocations",
                 names: &[certificate],
             };
-            let listed = store.revocations_of(rt.alloc(), &certificate);
+            let listed = store.revocations_of(&certificate);
             list::certificates(rt, store, heading, &[Kind::Revocation], listed, plain)
         }
         Question::DelegationsTo { subject, audience } => {
@@ -59,7 +59,7 @@ pub(crate) fn answer(
                 word: "delegations",
                 names: &[subject, audience],
             };
-            let listed = store.delegations_to(rt.alloc(), &subject, &audience);
+            let listed = store.delegations_to(&subject, &audience);
             list::certificates(rt, store, heading, &[Kind::Delegation], listed, plain)
         }
         Question::Certificates => {
@@ -67,10 +67,10 @@ pub(crate) fn answer(
                 word: "certificates",
                 names: &[],
             };
-            let listed = store.certificates(rt.alloc());
+            let listed = store.certificates();
             list::certificates(rt, store, heading, &BOTH, listed, plain)
         }
-        Question::Subjects => list::subjects(rt, store.subjects(rt.alloc()), plain),
+        Question::Subjects => list::subjects(rt, store.subjects(), plain),
         Question::Graph { subject } => graph::graph(rt, store, &subject),
     }
 }

@@ -29,7 +29,7 @@ struct Reader {
 
 // A proved loop has to end, and nothing says that a file does. So the loop has more turns than any run uses up.
 // The exit status says nothing of wrong lines: a line on standard error says that there were any.
-pub(crate) fn run<R: Print + Eprint + AllocGlobal, I: Read + Drop>(
+pub(crate) fn run<R: Print + Eprint, I: Read + Drop>(
     rt: &R,
     mut input: I,
     plain: bool,
@@ -63,7 +63,7 @@ pub(crate) fn run<R: Print + Eprint + AllocGlobal, I: Read + Drop>(
 
 impl Reader {
     // Some more of the text: what goes on with the line, and the lines that end in it.
-    fn take(&mut self, rt: &(impl Print + AllocGlobal), text: &[u8]) -> io::Result<()> {
+    fn take(&mut self, rt: &impl Print, text: &[u8]) -> io::Result<()> {
         let mut rest = text;
         while let Some((end, next)) = line::split_at_end(rest) {
             self.line.append(end);
@@ -74,7 +74,7 @@ impl Reader {
         Ok(())
     }
 
-    fn end_line(&mut self, rt: &(impl Print + AllocGlobal)) -> io::Result<()> {
+    fn end_line(&mut self, rt: &impl Print) -> io::Result<()> {
         let line = mem::replace(&mut self.line, Line::new());
         self.number = next(self.number);
         match read(&line) {
@@ -108,12 +108,7 @@ impl Reader {
     }
 
     // People see the question before its answer; before a graph it is a comment, so that what follows is Graphviz text as a whole.
-    fn asked(
-        &self,
-        rt: &(impl Print + AllocGlobal),
-        line: &Line,
-        question: Question,
-    ) -> io::Result<()> {
+    fn asked(&self, rt: &impl Print, line: &Line, question: Question) -> io::Result<()> {
         if !self.plain
             && let Ok(line) = line.bytes()
         {

@@ -18,14 +18,20 @@ mod room;
 mod small;
 mod unheld;
 
+use output::Output;
 use std::io;
 
-fn main(rt: HostRuntime) -> io::Result<()> {
+fn cases(out: &impl Print) -> io::Result<()> {
     let full = fill::full();
-    keys::cases(&rt)?;
-    full::cases(&rt, &full)?;
-    buffers::cases(&rt, &full)?;
-    parts::cases(&rt)?;
-    lengths::cases(&rt, &full)?;
-    unheld::cases(&rt)
+    keys::cases(out)?;
+    full::cases(out, &full)?;
+    buffers::cases(out, &full)?;
+    parts::cases(out)?;
+    lengths::cases(out, &full)?;
+    unheld::cases(out)
+}
+
+fn main(rt: HostRuntime) {
+    // Output hands on no failed write, so no case fails.
+    let _ = cases(&Output(&rt));
 }

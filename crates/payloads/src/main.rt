@@ -7,9 +7,15 @@ mod refused;
 mod sample;
 mod writing;
 
+use output::Output;
 use std::io;
 
-fn main(rt: HostRuntime) -> io::Result<()> {
-    reading::cases(&rt)?;
-    writing::cases(&rt)
+fn cases(out: &impl Print) -> io::Result<()> {
+    reading::cases(out)?;
+    writing::cases(out)
+}
+
+fn main(rt: HostRuntime) {
+    // Output hands on no failed write, so no case fails.
+    let _ = cases(&Output(&rt));
 }

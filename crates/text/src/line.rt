@@ -1,8 +1,6 @@
 // A line as it comes in, in as many parts as the reads make of it. A line that does not fit says so, and is neither cut nor gathered whole.
 ghost use Rattle.std.specs.Prelude.{◌≡◌, ◌∷◌, ◌++◌, ◌≤◌, length, IfOk, IfSome};
 
-use arrayvec::ArrayVec;
-
 pub const LINE_LENGTH: usize = 256;
 
 const LINE_END: u8 = b'\n';
@@ -11,34 +9,37 @@ const LINE_END: u8 = b'\n';
 #[derive(Clone, Copy, Debug, PartialEq, Eq)]
 pub struct TooLong;
 
-#[derive(Drop)]
+// A value that can be copied, so its bytes have a room of their own: the library's ArrayVec is not Copy.
+#[derive(Clone, Copy)]
 pub struct Line {
-    bytes: Result<ArrayVec<u8, LINE_LENGTH>, TooLong>,
+    room: [u8; LINE_LENGTH],
+    // How many bytes of the room are the line's.
+    length: Result<usize, TooLong>,
 }
 
 impl Line {
     pub fn new() -> Self {
         Line {
-            bytes: Ok(ArrayVec::new()),
+            room: [0; LINE_LENGTH],
+            length: Ok(0),
         }
     }
 
     // More bytes of the line, all of them or none.
     pub fn append(&mut self, more: &[u8]) {
-        if let Ok(bytes) = &mut self.bytes
-            && bytes.try_extend_from_slice(more).is_err()
-        {
-            self.bytes = Err(TooLong);
+        if let Ok(at) = self.length {
+            self.length = Err(TooLong);
+            if at <= LINE_LENGTH && more.len() <= LINE_LENGTH - at {
+                self.room[at..at + more.len()].copy_from_slice(more);
+                self.length = Ok(at + more.len());
+            }
         }
     }
 
     pub fn bytes(&self) -> Result<&[u8], TooLong>
         ensures { IfOk result (λ bytes. length bytes.now ≤ LINE_LENGTH) }
     {
-        match &self.bytes {
-            Ok(bytes) => Ok(bytes.as_slice()),
-            Err(why) => Err(*why),
-        }
+        self.room.get(..self.length?).ok_or(TooLong)
     }
 }
 

@@ -6,7 +6,7 @@ use keyline::limits::KEY_LENGTH;
 // One byte fewer than a key or a digest has.
 pub const NAME_LENGTH: usize = KEY_LENGTH - 1;
 
-#[derive(Clone, Copy, Debug, PartialEq, Eq)]
+#[derive(Clone, Copy, Debug, Default, PartialEq, Eq)]
 pub struct Name([u8; KEY_LENGTH]);
 
 impl Name {

@@ -1,12 +1,24 @@
 // A line's words: runs of bytes between spaces, and the signs `:`, `>` and `/`, each a word of its own. `#` starts a comment.
 ghost use Rattle.std.specs.Prelude.{◌≤◌, length};
 
-use arrayvec::ArrayVec;
-
 // The longest statement, a delegation, has eight words; a line with more is wrong whatever they are.
 pub const WORD_LIMIT: usize = 12;
 
-pub type Words<'a> = ArrayVec<&'a [u8], WORD_LIMIT>;
+// A value that can be copied: the library's ArrayVec is not Copy.
+#[derive(Clone, Copy)]
+pub struct Words<'a> {
+    room: [&'a [u8]; WORD_LIMIT],
+    count: usize,
+}
+
+impl<'a> Words<'a> {
+    pub fn as_slice<'b>(&'b self) -> &'b [&'a [u8]]
+    where
+        'a: 'b,
+    {
+        &self.room[..self.count.min(WORD_LIMIT)]
+    }
+}
 
 #[derive(Clone, Copy, Debug, PartialEq, Eq)]
 pub enum WordsError {
@@ -24,17 +36,24 @@ pub fn split(line: &[u8]) -> Result<Words<'_>, WordsError> {
     {
         return Err(WordsError::StrangeByte);
     }
-    let mut words = ArrayVec::new();
+    let mut room = [b"".as_slice(); WORD_LIMIT];
+    let mut count = 0;
     for word in text.chunk_by(|a, b| is_letter(*a) && is_letter(*b)) {
         if word.iter().all(|b| is_space(*b)) {
             continue;
         }
-        if words.len() == WORD_LIMIT {
+        if count == WORD_LIMIT {
             return Err(WordsError::TooMany);
         }
-        words.push(word);
+        room[count] = word;
+        count += 1;
     }
-    Ok(words)
+    Ok(Words { room, count })
+}
+
+// The bytes from a to e, or none where the text has no such part.
+pub fn part(text: &[u8], a: usize, e: usize) -> &[u8] {
+    text.get(a..e).unwrap_or(&[])
 }
 
 // What a line says: its text from the first word's beginning to the last word's end.
@@ -43,7 +62,7 @@ pub fn whole(line: &[u8]) -> &[u8] {
 }
 
 fn without_comment(line: &[u8]) -> &[u8] {
-    &line[..comment_start(line)]
+    part(line, 0, comment_start(line))
 }
 
 // Where a line's comment begins, or else where the line ends.
