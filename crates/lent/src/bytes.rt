@@ -16,5 +16,9 @@ pub fn copy_at(out: &mut [u8], at: usize, src: &[u8])
     requires { at + length src.now ≤ length out.old }
     ensures { out.new ≡ put out.old at src.now }
 {
-    out[at..at + src.len()].copy_from_slice(src);
+    // No `copy_from_slice`: where the compiler does not know the length it is the C library's memmove, which a caller of the archive would have
+    // to bring.
+    for j in 0..src.len() {
+        out[at + j] = src[j];
+    }
 }
