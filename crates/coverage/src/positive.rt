@@ -2,10 +2,10 @@
 
 ghost use Rattle.std.specs.Prelude.{◌≡◌, ℕ, ◌+◌, ◌<◌, ◌≤◌, get_or};
 ghost use Rattle.places.specs.Limits.{key_limit, delegation_limit};
+ghost use Rattle.rules.specs.Rules.{Admin};
 ghost use Rattle.search.specs.Sets.{Word};
 ghost use Rattle.coverage.specs.Arrays.{Any, Filled};
 
-use crate::Facts;
 use places::DELEGATION_LIMIT;
 
 // The subjects of the first n delegations. It takes the one column that it reads: the proof map names it, and the type of facts asks more.
@@ -20,13 +20,14 @@ pub fn subjects(subject: &[u8; DELEGATION_LIMIT], n: usize) -> u64
     w
 }
 
-// The grades of the held delegations at their stated power.
-pub fn powers(facts: &Facts) -> [u8; DELEGATION_LIMIT]
-    ensures { Filled facts.now.delegations (λ d v. v ≡ get_or facts.now.power d 0 + 1) result }
+// The grades of the first n delegations at their stated power. It too takes the one column that it reads.
+pub fn powers(power: &[u8; DELEGATION_LIMIT], n: usize) -> [u8; DELEGATION_LIMIT]
+    requires { (n ≤ delegation_limit) × ((d : ℕ) → get_or power.now d 0 ≤ Admin) }
+    ensures { Filled n (λ d v. v ≡ get_or power.now d 0 + 1) result }
 {
     let mut grades = [0u8; DELEGATION_LIMIT];
-    for d in 0..facts.delegations {
-        grades[d] = facts.power[d] + 1;
+    for d in 0..n {
+        grades[d] = power[d] + 1;
     }
     grades
 }

@@ -42,7 +42,7 @@ pub fn evaluate(facts: Facts) -> Evaluation
     let m = facts.revocations;
     let subjects = coverage::positive::subjects(&facts.subject, n);
     let edges = search::edges::index(&facts.issuer, &facts.subject, n);
-    let all = coverage::positive::powers(&facts);
+    let all = coverage::positive::powers(&facts.power, n);
     let delegations = Delegations {
         issuer: &facts.issuer,
         audience: &facts.audience,

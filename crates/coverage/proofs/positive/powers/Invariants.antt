@@ -6,4 +6,4 @@ use Rattle.coverage.specs.Arrays.{Filled}
 use Rattle.coverage.proofs.positive.powers.Given as goal
 
 abbrev pub invariant-loop-d : goal.invariant-loop-d
-invariant-loop-d l = Filled l.d (λ i v. v ≡ get_or l.facts.power i 0 + 1) l.grades
+invariant-loop-d l = Filled l.d (λ i v. v ≡ get_or l.power i 0 + 1) l.grades
