@@ -1,6 +1,6 @@
 -- The delegation payload, from document 01's "Delegation payload": what a reader finds and what a writer leaves, on every input.
 -- `cond t a b` is a where t holds, and b where it does not; `ltb`, `eqb` are the tests < and ≡ on numbers. Rests on Limits, Power, Refusal, Bytes.
-use Rattle.std.specs.Prelude.{ℕ, ◌+◌, ◌≤◌, Bool, true, false, cond, ◌||◌, List, [], ◌∷◌, ◌++◌, ◌≡◌, length, take, drop, get_or, eqb, ltb, Result, Ok, Err}
+use Rattle.std.specs.Prelude.{ℕ, ◌+◌, ◌≤◌, Bool, true, false, cond, not, ◌||◌, List, [], ◌∷◌, ◌++◌, ◌≡◌, length, take, drop, get_or, eqb, ltb, Result, Ok, Err}
 use Rattle.keyline.specs.Limits.{key_length, digest_length, power_at, tag_at, payload_length, cited_length}
 use Rattle.power_levels.specs.Power.{level_of}
 use Rattle.lent.specs.Bytes.{front}
@@ -61,6 +61,11 @@ cited (Err r) s = []
 
 unfoldable pub citation_of : List ℕ → List ℕ
 citation_of s = cited (decoded s) s
+
+-- the reader's answer in the same words: the level and whether a citation follows, or the refusal
+abbrev pub read_as : Result Payload Refusal → Result Found Refusal
+read_as (Ok p) = Ok (found p.power (not (eqb (length p.citation.now) 0)))
+read_as (Err r) = Err r
 
 -- what is handed over of the payload s: p has its level, and its other parts as they stand in s
 pub record IsPayload (s : List ℕ) (p : Payload) : Type 0 where

@@ -2,7 +2,7 @@
 // The reader looks at the caller's bytes where they lie; the writer tests everything before it writes the first byte.
 ghost use Rattle.std.specs.Prelude.{◌≡◌, IfOk, IfErr};
 ghost use Rattle.lent.specs.Bytes.{front};
-ghost use Rattle.codec.specs.Delegation.{decoded, IsPayload, citation_of, encoded, tag_for, citation_fits, encode_checked, encode_answer, after_encode, Room};
+ghost use Rattle.codec.specs.Delegation.{decoded, read_as, IsPayload, citation_of, encoded, tag_for, citation_fits, encode_checked, encode_answer, after_encode, Room};
 
 use keyline::limits::{CITED_LENGTH, DIGEST_LENGTH, KEY_LENGTH, PAYLOAD_LENGTH, POWER_AT, TAG_AT};
 use keyline::refusal::Refusal;
@@ -26,6 +26,7 @@ pub struct Payload<'a> {
 // What an accepted payload says, or why the payload is refused.
 #[tactic(auto, unfolding(crate::specs::Delegation::decoded, crate::specs::Delegation::tagged))]
 pub fn decode(payload: &[u8]) -> Result<Payload<'_>, Refusal>
+    ensures value { read_as result ≡ decoded payload.now }
     ensures accepted { IfOk result (IsPayload payload.now) }
     ensures refused { IfErr result (λ why. decoded payload.now ≡ Err why) }
 {
