@@ -24,7 +24,11 @@ pub fn standing(
 {
     match asked? {
         None => Ok(None),
-        Some(d) => Ok(Some(evaluation.standing_of(d))),
+        Some(d) => match evaluation.standing_of(d) {
+            Standing::Live => Ok(Some(Standing::Live)),
+            Standing::Revoked => Ok(Some(Standing::Revoked)),
+            Standing::Unsupported => Ok(Some(Standing::Unsupported)),
+        },
     }
 }
 

@@ -4,16 +4,13 @@ use Rattle.store.specs.Store.{committed}
 use Rattle.answers.specs.Graph.{graph}
 use Rattle.answers.specs.Answers as says
 use Rattle.answers.proofs.Places.{table}
-use Rattle.rules.specs.Rules.{StandingIs}
+use Rattle.rules.specs.Rules.{StandingIs, live, revoked, unsupported}
 use Rattle.rules.proofs.Stores.Places.{standing_bytes}
-use Rattle.answers.specs.Answers.{StandingAnswer, StandingSays}
+use Rattle.answers.specs.Answers.{StandingAnswer}
 use Rattle.keyline.proofs.HandedOn.{handed_on}
 use Rattle.answers.proofs.Cases.{delegation_at_place, delegation_unheld, delegation_refused, not_held, is_held, with_is}
 use Rattle.standings.proofs.standing.Goals as goal
 use Rattle.std.specs.Prelude.{Ok, Err}
-use Rattle.keyline.specs.declared.standing.Standing.{Standing}
-use Rattle.keyline.specs.declared.standing.Standing.TheVariants.{Live, Revoked, Unsupported}
-use Rattle.evaluation.specs.Result.{standing_of}
 
 pub standing_of-requires : goal.standing_of-requires
 standing_of-requires c =
@@ -33,19 +30,32 @@ returns-in-None c =
     let n = delegation_unheld c.requires.1 (c.in_ok-asked.was ∙ ap Ok c.in-None.is) in
     says.absent n.long (not_held s.store.now c.requires.0.store s.digest.now n)
 
--- the answer says the standing that the rules name alike
-says_itself : (u : Standing) → StandingSays (standing_of u) u
-says_itself Live = says.live
-says_itself Revoked = says.revoked
-says_itself Unsupported = says.unsupported
-
-pub returns-in-Some : goal.returns-in-Some
-returns-in-Some c =
+pub returns-in-Live : goal.returns-in-Live
+returns-in-Live c =
     let s = c.args in
     let g = c.requires.0 in
     let st = s.store.now in
     let x = s.digest.now in
-    let r = c.standing_of.result in
     let a = delegation_at_place c.requires.1 (c.in_ok-asked.was ∙ ap Ok c.in-Some.is) in
-    let t = standing_bytes (table st g.store s.evaluation.now.facts g.facts) (rw g.facts.delegations a.within) c.standing_of.ensures in
-    says.answered a.long (is_held st g.store x c.in-Some.d a) (subst (λ y. StandingIs (graph (committed st)) y (standing_of r)) (sym (with_is st g.store x c.in-Some.d a)) t) (says_itself r)
+    let t = standing_bytes (table st g.store s.evaluation.now.facts g.facts) (rw g.facts.delegations a.within) (rw c.in-Live.is at c.standing_of.ensures) in
+    says.answered a.long (is_held st g.store x c.in-Some.d a) (subst (λ y. StandingIs (graph (committed st)) y live) (sym (with_is st g.store x c.in-Some.d a)) t) says.live
+
+pub returns-in-Revoked : goal.returns-in-Revoked
+returns-in-Revoked c =
+    let s = c.args in
+    let g = c.requires.0 in
+    let st = s.store.now in
+    let x = s.digest.now in
+    let a = delegation_at_place c.requires.1 (c.in_ok-asked.was ∙ ap Ok c.in-Some.is) in
+    let t = standing_bytes (table st g.store s.evaluation.now.facts g.facts) (rw g.facts.delegations a.within) (rw c.in-Revoked.is at c.standing_of.ensures) in
+    says.answered a.long (is_held st g.store x c.in-Some.d a) (subst (λ y. StandingIs (graph (committed st)) y revoked) (sym (with_is st g.store x c.in-Some.d a)) t) says.revoked
+
+pub returns-in-Unsupported : goal.returns-in-Unsupported
+returns-in-Unsupported c =
+    let s = c.args in
+    let g = c.requires.0 in
+    let st = s.store.now in
+    let x = s.digest.now in
+    let a = delegation_at_place c.requires.1 (c.in_ok-asked.was ∙ ap Ok c.in-Some.is) in
+    let t = standing_bytes (table st g.store s.evaluation.now.facts g.facts) (rw g.facts.delegations a.within) (rw c.in-Unsupported.is at c.standing_of.ensures) in
+    says.answered a.long (is_held st g.store x c.in-Some.d a) (subst (λ y. StandingIs (graph (committed st)) y unsupported) (sym (with_is st g.store x c.in-Some.d a)) t) says.unsupported
