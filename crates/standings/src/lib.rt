@@ -12,7 +12,7 @@ use keyline::standing::Standing;
 use places::DelegationPlace;
 use store::Store;
 
-// Live, revoked or unsupported.
+// Live, revoked or unsupported. Each has an arm of its own, so that each is proved by itself.
 pub fn standing(
     store: &Store,
     evaluation: &Evaluation,
