@@ -5,8 +5,8 @@ use crate::fields::{Fields, Run};
 use crate::frame::{Frame, Head, Kept, Line, MOST_DELEGATIONS, MOST_KEYS, MOST_REVOCATIONS};
 use crate::kernel::{Evaluation, Store};
 use crate::tally::Tally;
+use arrayvec::ArrayVec;
 use keyline::limits::{DIGEST_LENGTH, KEY_LENGTH};
-use std::alloc::{AllocError, AllocFailed, Global};
 
 pub(crate) const EVERY_DELEGATION: usize = DIGEST_LENGTH * MOST_DELEGATIONS;
 
@@ -16,25 +16,9 @@ pub(crate) const ALL: usize = EVERY_DELEGATION + EVERY_REVOCATION;
 
 pub(crate) const EVERY_KEY: usize = KEY_LENGTH * MOST_KEYS;
 
-// Why a block is not gone on with.
-#[derive(Drop)]
-pub(crate) enum Fault {
-    // One of its lines, which the tally has named.
-    Malformed,
-    Memory(AllocError),
-}
-
-impl From<AllocError> for Fault {
-    fn from(e: AllocError) -> Self {
-        Fault::Memory(e)
-    }
-}
-
-impl<T: Drop> From<AllocFailed<T>> for Fault {
-    fn from(e: AllocFailed<T>) -> Self {
-        Fault::Memory(AllocError::from(e))
-    }
-}
+// One of a block's lines, which the tally has named, so that the block is not gone on with.
+#[derive(Clone, Copy)]
+pub(crate) struct Fault;
 
 // What the lines of a block are held against.
 #[derive(Clone, Copy)]
@@ -50,37 +34,39 @@ pub(crate) struct Block<'a> {
 }
 
 pub(crate) fn check<R: Print>(
-    alloc: Global,
     store: &Store,
     kept: &Kept,
     tally: &mut Tally<R>,
 ) -> Result<(), Fault> {
     tally.block();
-    let at = kept.head.number;
-    let Some(head) = Head::read(&kept.head) else {
+    let at = kept.head().number;
+    let Some(head) = Head::read(kept.head()) else {
         return malformed(tally, at);
     };
-    let frame = Frame::of(&kept.lines);
+    let frame = Frame::of(kept.lines());
     if is_large(&head, &frame) {
         tally.too_large(at);
-        return Err(Fault::Malformed);
+        return Err(Fault);
     }
     if let Some(wrong) = misplaced(&head, &frame, tally.line()) {
         return malformed(tally, wrong);
     }
-    let mut keys = Vec::new(alloc);
+    let mut keys = ArrayVec::<Run, MOST_KEYS>::new();
     for line in frame.asked.iter().filter(|line| line.is(b'K')) {
-        match Fields::of(&line.text).run() {
-            Some(key) if keys.last().is_none_or(|last| *last < key) => keys.push(key)?,
+        match Fields::of(line.text()).run() {
+            Some(key) if keys.as_slice().last().is_none_or(|last| *last < key) => {
+                // There are no more than have room.
+                let _ = keys.try_push(key);
+            }
             _ => return malformed(tally, line.number),
         }
     }
-    answers(store, at, &head, &frame, &keys, tally)
+    answers(store, at, &head, &frame, keys.as_slice(), tally)
 }
 
 pub(crate) fn malformed<R: Print>(tally: &mut Tally<R>, line: u64) -> Result<(), Fault> {
     tally.malformed(line);
-    Err(Fault::Malformed)
+    Err(Fault)
 }
 
 fn is_large(head: &Head, frame: &Frame<'_>) -> bool {
@@ -133,7 +119,7 @@ fn is_named(before: &Line, line: &Line, keys: usize, delegations: usize) -> bool
     match To::read(line, delegations) {
         Some(to) if to.key < keys => {
             !before.is(b'T')
-                || Fields::of(&before.text)
+                || Fields::of(before.text())
                     .number()
                     .is_some_and(|key| key < to.key)
         }
@@ -150,7 +136,7 @@ pub(crate) struct To<'a> {
 
 impl<'a> To<'a> {
     pub(crate) fn read(line: &'a Line, delegations: usize) -> Option<Self> {
-        let mut fields = Fields::of(&line.text);
+        let mut fields = Fields::of(line.text());
         let to = To {
             key: fields.number()?,
             marks: fields.marks(delegations)?,
@@ -229,7 +215,7 @@ impl Block<'_> {
 }
 
 fn is_flagged(line: &Line) -> bool {
-    let mut fields = Fields::of(&line.text);
+    let mut fields = Fields::of(line.text());
     fields.text();
     line.is(b'K') && fields.text() == Some(b"1".as_slice())
 }

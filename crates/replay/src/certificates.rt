@@ -26,7 +26,7 @@ struct Delegation<'a> {
 
 impl<'a> Delegation<'a> {
     fn read(line: &'a Line, revocations: usize) -> Option<Self> {
-        let mut fields = Fields::of(&line.text);
+        let mut fields = Fields::of(line.text());
         let delegation = Delegation {
             digest: fields.run()?,
             issuer: fields.run()?,
@@ -62,7 +62,7 @@ struct Revocation {
 
 impl Revocation {
     fn read(line: &Line) -> Option<Self> {
-        let mut fields = Fields::of(&line.text);
+        let mut fields = Fields::of(line.text());
         let revocation = Revocation {
             digest: fields.run()?,
             issuer: fields.run()?,
@@ -82,7 +82,7 @@ struct Unheld<'a> {
 
 impl<'a> Unheld<'a> {
     fn read(line: &'a Line, revocations: usize) -> Option<Self> {
-        let mut fields = Fields::of(&line.text);
+        let mut fields = Fields::of(line.text());
         let unheld = Unheld {
             digest: fields.run()?,
             named: fields.marks(revocations)?,

@@ -1,9 +1,9 @@
 // The lines of a block as they are kept until its end, because a row speaks of keys in later lines, and where its parts lie among them.
 use crate::fields::Fields;
-use std::alloc::{AllocError, Global};
+use arrayvec::ArrayVec;
 
-// Of a line, with its line end: the longest is a K line with two rows of 160 letters.
-const LONGEST: usize = 600;
+// Of a line: the longest is a K line with two rows of 160 letters.
+const LONGEST: usize = 599;
 
 // 128 D, 64 R, 160 N, 160 K and 128 T lines.
 const MOST_LINES: usize = 640;
@@ -14,63 +14,68 @@ pub(crate) const MOST_DELEGATIONS: usize = 128;
 
 pub(crate) const MOST_REVOCATIONS: usize = 64;
 
-#[derive(Drop)]
+#[derive(Default, Drop)]
 pub(crate) struct Line {
     pub number: u64,
-    pub text: Vec<u8>,
+    text: ArrayVec<u8, LONGEST>,
 }
 
 impl Line {
     // Nothing where the line is too long.
-    fn new(alloc: Global, number: u64, text: &[u8]) -> Result<Option<Self>, AllocError> {
-        if text.len() >= LONGEST {
-            return Ok(None);
-        }
-        let text = text.to_vec(alloc)?;
-        Ok(Some(Line { number, text }))
+    fn new(number: u64, line: &[u8]) -> Option<Self> {
+        let mut text = ArrayVec::new();
+        text.try_extend_from_slice(line).ok()?;
+        Some(Line { number, text })
+    }
+
+    pub(crate) fn text(&self) -> &[u8] {
+        self.text.as_slice()
     }
 
     pub(crate) fn is(&self, kind: u8) -> bool {
-        self.text.first() == Some(&kind)
+        self.text().first() == Some(&kind)
     }
 }
 
-// The line `a`, and those behind it.
+// The line `a`, and those behind it. One value serves every block.
 #[derive(Drop)]
 pub(crate) struct Kept {
-    pub head: Line,
-    pub lines: Vec<Line>,
+    head: Line,
+    lines: ArrayVec<Line, MOST_LINES>,
 }
 
 impl Kept {
-    // Nothing where the line is too long.
-    pub(crate) fn open(
-        alloc: Global,
-        number: u64,
-        text: &[u8],
-    ) -> Result<Option<Self>, AllocError> {
-        let Some(head) = Line::new(alloc, number, text)? else {
-            return Ok(None);
+    pub(crate) fn new() -> Self {
+        Kept {
+            head: Line::default(),
+            lines: ArrayVec::new(),
+        }
+    }
+
+    // Begins a block with its line `a`, where that is not too long.
+    pub(crate) fn open(&mut self, number: u64, line: &[u8]) -> bool {
+        let Some(head) = Line::new(number, line) else {
+            return false;
         };
-        let lines = Vec::new(alloc);
-        Ok(Some(Kept { head, lines }))
+        self.head = head;
+        self.lines.clear();
+        true
     }
 
     // Whether there was room for the line.
-    pub(crate) fn keep(
-        &mut self,
-        alloc: Global,
-        number: u64,
-        text: &[u8],
-    ) -> Result<bool, AllocError> {
-        if self.lines.len() >= MOST_LINES {
-            return Ok(false);
+    pub(crate) fn keep(&mut self, number: u64, line: &[u8]) -> bool {
+        match Line::new(number, line) {
+            Some(line) => self.lines.try_push(line).is_ok(),
+            None => false,
         }
-        let Some(line) = Line::new(alloc, number, text)? else {
-            return Ok(false);
-        };
-        self.lines.push(line)?;
-        Ok(true)
+    }
+
+    pub(crate) fn head(&self) -> &Line {
+        &self.head
+    }
+
+    pub(crate) fn lines(&self) -> &[Line] {
+        self.lines.as_slice()
     }
 }
 
@@ -85,7 +90,7 @@ pub(crate) struct Head {
 
 impl Head {
     pub(crate) fn read(line: &Line) -> Option<Self> {
-        let mut fields = Fields::of(&line.text);
+        let mut fields = Fields::of(line.text());
         let head = Head {
             version: fields.number()?,
             len: fields.number()?,

@@ -22,7 +22,7 @@ struct Asked<'a> {
 
 impl<'a> Asked<'a> {
     fn read(line: &'a Line, block: &Block<'_>) -> Option<Self> {
-        let mut fields = Fields::of(&line.text);
+        let mut fields = Fields::of(line.text());
         let asked = Asked {
             key: fields.run()?,
             is_subject: fields.flag()?,
@@ -122,5 +122,5 @@ impl Block<'_> {
 
 // Whether the T line is about the key in the K line of this number.
 fn names(line: &Line, j: usize) -> bool {
-    Fields::of(&line.text).number() == Some(j)
+    Fields::of(line.text()).number() == Some(j)
 }

@@ -3,9 +3,9 @@
 // verdict: all is well where it ends in '0 differ, 0 malformed'. The exit status says only whether the input could be read.
 #![tactic(auto)]
 
+use frame::Kept;
 use session::Session;
 use std::io;
-use std::io::BufReader;
 
 mod block;
 mod certificates;
@@ -19,18 +19,10 @@ mod payload;
 mod session;
 mod tally;
 
-fn replay<R: Input + Print + AllocGlobal + Clone + Drop>(rt: &R) -> io::Result<()> {
-    let alloc = rt.alloc();
-    let mut reader = BufReader::new(alloc, rt.reader())?;
-    let mut session = Session::new(alloc, rt.clone()?);
-    let mut line = Vec::new(alloc);
-    // Nothing says that the input ends, so the lines are counted up to a number that no run uses up.
-    for _ in 0..u64::MAX {
-        if !input::next_line(&mut reader, &mut line)? {
-            break;
-        }
-        session.read(&line)?;
-    }
+fn replay<R: Input + Print + Clone + Drop>(rt: &R) -> io::Result<()> {
+    let mut kept = Kept::new();
+    let mut session = Session::new(rt.clone()?, &mut kept);
+    input::read(rt.reader(), &mut session)?;
     session.report();
     Ok(())
 }

@@ -1,5 +1,4 @@
 // What stands between lines: the counts, the store, and where in the format the next line lies.
-use crate::block::Fault;
 use crate::fields::Fields;
 use crate::frame::Kept;
 use crate::kernel::Store;
@@ -7,58 +6,55 @@ use crate::tally::Tally;
 use crate::{block, fields, payload};
 use keyline::limits::CITED_LENGTH;
 use keyline::refusal::Refusal;
-use std::alloc::Global;
-use std::{io, mem};
 
-#[derive(Drop)]
+#[derive(Clone, Copy)]
 enum Mode {
     // No store yet.
     Start,
     // Among the insertions of a store.
     Store,
     // Between a and z.
-    Block(Kept),
+    Block,
     // Behind a malformed line, until the next store.
     Skip,
 }
 
 #[derive(Drop)]
-pub(crate) struct Session<R: Print> {
-    alloc: Global,
+pub(crate) struct Session<'a, R: Print> {
     tally: Tally<R>,
     store: Store,
     mode: Mode,
+    // of the block, where there is one
+    kept: &'a mut Kept,
 }
 
-impl<R: Print> Session<R> {
-    pub(crate) fn new(alloc: Global, rt: R) -> Self {
+impl<'a, R: Print> Session<'a, R> {
+    pub(crate) fn new(rt: R, kept: &'a mut Kept) -> Self {
         let tally = Tally::new(rt);
         let store = Store::new();
         Session {
-            alloc,
             tally,
             store,
             mode: Mode::Start,
+            kept,
         }
     }
 
     // A block that the input leaves open is malformed.
     pub(crate) fn report(&mut self) {
-        if let Mode::Block(_) = self.mode {
+        if let Mode::Block = self.mode {
             self.tally.next_line();
             self.malformed();
         }
         self.tally.report();
     }
 
-    pub(crate) fn read(&mut self, line: &[u8]) -> io::Result<()> {
+    pub(crate) fn read(&mut self, line: &[u8]) {
         self.tally.next_line();
-        let mode = mem::replace(&mut self.mode, Mode::Skip);
-        self.mode = match mode {
-            Mode::Block(kept) => self.inside(kept, line)?,
-            mode => self.outside(mode, line)?,
+        self.mode = match self.mode {
+            Mode::Block => self.inside(line),
+            mode => self.outside(mode, line),
         };
-        Ok(())
     }
 
     // The line, and what is behind it until the next store.
@@ -69,42 +65,41 @@ impl<R: Print> Session<R> {
     }
 
     // A line between a and z. The next store ends a block that was left open, which is malformed.
-    fn inside(&mut self, mut kept: Kept, line: &[u8]) -> io::Result<Mode> {
+    fn inside(&mut self, line: &[u8]) -> Mode {
         if line == b"z".as_slice() {
-            return self.closed(&kept);
+            return self.closed();
         }
         if line.first() == Some(&b's') {
             self.malformed();
-            return Ok(self.named(line));
+            return self.named(line);
         }
         let number = self.tally.line();
-        if kept.keep(self.alloc, number, line)? {
-            return Ok(Mode::Block(kept));
+        if self.kept.keep(number, line) {
+            return Mode::Block;
         }
         self.tally.too_large(number);
-        Ok(Mode::Skip)
+        Mode::Skip
     }
 
-    fn closed(&mut self, kept: &Kept) -> io::Result<Mode> {
-        match block::check(self.alloc, &self.store, kept, &mut self.tally) {
-            Ok(()) => Ok(Mode::Store),
-            Err(Fault::Malformed) => Ok(Mode::Skip),
-            Err(Fault::Memory(e)) => Err(e.into()),
+    fn closed(&mut self) -> Mode {
+        match block::check(&self.store, self.kept, &mut self.tally) {
+            Ok(()) => Mode::Store,
+            Err(_) => Mode::Skip,
         }
     }
 
-    fn outside(&mut self, mode: Mode, line: &[u8]) -> io::Result<Mode> {
+    fn outside(&mut self, mode: Mode, line: &[u8]) -> Mode {
         match (line.first(), mode) {
-            (Some(b's'), _) => Ok(self.named(line)),
+            (Some(b's'), _) => self.named(line),
             (Some(b'p'), mode) => {
                 payload::line(&mut self.tally, line);
-                Ok(mode)
+                mode
             }
-            (_, Mode::Skip) => Ok(Mode::Skip),
-            (Some(b'd'), Mode::Store) => Ok(self.delegation(line)),
-            (Some(b'r'), Mode::Store) => Ok(self.revocation(line)),
+            (_, Mode::Skip) => Mode::Skip,
+            (Some(b'd'), Mode::Store) => self.delegation(line),
+            (Some(b'r'), Mode::Store) => self.revocation(line),
             (Some(b'a'), Mode::Store) => self.opened(line),
-            _ => Ok(self.malformed()),
+            _ => self.malformed(),
         }
     }
 
@@ -120,10 +115,11 @@ impl<R: Print> Session<R> {
     }
 
     // a version len nd nr
-    fn opened(&mut self, line: &[u8]) -> io::Result<Mode> {
-        match Kept::open(self.alloc, self.tally.line(), line)? {
-            Some(kept) => Ok(Mode::Block(kept)),
-            None => Ok(self.malformed()),
+    fn opened(&mut self, line: &[u8]) -> Mode {
+        if self.kept.open(self.tally.line(), line) {
+            Mode::Block
+        } else {
+            self.malformed()
         }
     }
 
