@@ -18,9 +18,9 @@ rank_at (suc (suc (suc zero))) h = refl
 rank_at (suc (suc (suc (suc r)))) h = absurd (omega arith)
 
 -- a byte that is one more than a level's rank, however the rank is written
-leveled : (b r : ℕ) (p : Power) → suc r ≡ b → r < level_count → p ≡ at_rank r → LevelIs (level_of b) (Some p)
+one_more : (b r : ℕ) (p : Power) → suc r ≡ b → r < level_count → p ≡ at_rank r → LevelIs (level_of b) (Some p)
 unfolding level_of
-leveled b r p e h q = rw (q, ← e) (subst (λ (x : ℕ). LevelIs (level_of (suc x)) (Some (at_rank r))) (rank_at r h) (level (at_rank r)))
+one_more b r p e h q = rw (q, ← e) (subst (λ (x : ℕ). LevelIs (level_of (suc x)) (Some (at_rank r))) (rank_at r h) (level (at_rank r)))
 
 pub returns-in-0 : goal.returns-in-0
 unfolding level_of
@@ -28,4 +28,4 @@ returns-in-0 c = rw c.in-0.is no_level
 
 pub returns-in_default : goal.returns-in_default
 returns-in_default c =
-    leveled c.args.byte _ c.from_rank.result (omega arith) (omega (arith, c.requires)) c.from_rank.ensures
+    one_more c.args.byte _ c.from_rank.result (omega arith) (omega (arith, c.requires)) c.from_rank.ensures
